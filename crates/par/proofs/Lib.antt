@@ -1,0 +1,20 @@
+-- Promises restates the main theorems; the others prove them, in this order.
+pub mod Promises
+pub mod Order
+pub mod Tables
+pub mod Sets
+pub mod Figure3
+pub mod Figure4
+pub mod Figure5
+pub mod Silence
+pub mod Agree
+pub mod Congruence
+pub mod Equations
+pub mod Closing
+pub mod Measures
+pub mod Growth
+pub mod Weight
+pub mod Throughout
+pub mod Unnamed
+pub mod Records
+pub mod Worked

@@ -1,0 +1,158 @@
+-- What this crate promises, each theorem whole, with the file that proves it cited. Assumes nothing: there is no axiom in the crate.
+use Prim.Native.Nat.{ℕ, _+_, _*_, _-_, _/_, _%_, _^_, _<_, _≤_, min, max}
+use mathlib.Core.Path.{_≡_, refl, sym, _∙_}
+use mathlib.Core.List.{List, map, List·Memᴰ}
+use mathlib.Core.Logic.{_≢_, _↔_}
+use Rattle.par.specs.declared.Status.{Status}
+use Rattle.par.specs.declared.Status.the-variants.{Waiting}
+use Rattle.par.specs.declared.Node.{Node}
+use Rattle.par.specs.Status.{higher, lower, tried, rank}
+use Rattle.par.specs.Expr.{Expr, join, size}
+use Rattle.par.specs.Expr.{Expr.silent, Expr.not, Expr.either, Expr.then, Expr.repeat, Expr.try}
+use Rattle.par.specs.Figures.{Completes, Becomes, Sends, Completes.αSel}
+use Rattle.par.specs.Step.{status, notices, remainder, lines, made}
+use Rattle.par.specs.Feed.{answers, after}
+use Rattle.par.specs.Like.{Like, Swapped, Closed}
+use Rattle.par.specs.Throughout.{Unnamed, Fits}
+use Rattle.par.specs.Records.{expr, File}
+use Rattle.par.proofs.Order
+use Rattle.par.proofs.Sets
+use Rattle.par.proofs.Figure3
+use Rattle.par.proofs.Figure4
+use Rattle.par.proofs.Figure5
+use Rattle.par.proofs.Silence.{nothing}
+use Rattle.par.proofs.Silence
+use Rattle.par.proofs.Congruence
+use Rattle.par.proofs.Equations
+use Rattle.par.proofs.Closing
+use Rattle.par.proofs.Growth
+use Rattle.par.proofs.Weight
+use Rattle.par.proofs.Throughout
+use Rattle.par.proofs.Unnamed
+use Rattle.par.proofs.Records
+use Rattle.par.proofs.Worked.{Worked}
+use Rattle.par.proofs.Worked
+
+-- ---- The figures are the functions
+
+pub figure-3 : (x : Expr) (a : ℕ) (c : Status) → Completes x a c ↔ (status x a ≡ c)
+figure-3 = Figure3.figure-3
+
+pub figure-4 : (x : Expr) (a : ℕ) (x' : Expr) → Becomes x a x' ↔ (remainder x a ≡ x')
+figure-4 = Figure4.figure-4
+
+pub figure-5 : (x : Expr) (a o : ℕ) → Sends x a o ↔ (notices x a ≡ o)
+figure-5 = Figure5.figure-5
+
+-- So the figures give every expression one status, one remainder and one notice set on every event.
+pub one-status : (x : Expr) (a : ℕ) → Completes x a (status x a) × ((c : Status) → Completes x a c → c ≡ status x a)
+one-status x a = (figure-3 x a (status x a) .1 refl, λ c p. sym (figure-3 x a c .0 p))
+
+pub one-remainder : (x : Expr) (a : ℕ) → Becomes x a (remainder x a) × ((x' : Expr) → Becomes x a x' → x' ≡ remainder x a)
+one-remainder x a = (figure-4 x a (remainder x a) .1 refl, λ x' p. sym (figure-4 x a x' .0 p))
+
+pub one-notice-set : (x : Expr) (a : ℕ) → Sends x a (notices x a) × ((o : ℕ) → Sends x a o → o ≡ notices x a)
+one-notice-set x a = (figure-5 x a (notices x a) .1 refl, λ o p. sym (figure-5 x a o .0 p))
+
+-- The two tables of the code are figure 3's rules for two parts.
+pub either-table : {x y : Expr} {a : ℕ} {c d : Status} → Completes x a c → Completes y a d → Completes (either x y) a (higher c d)
+either-table p q = αSel p q
+
+pub try-table : {x y : Expr} {a : ℕ} {c d : Status} → Completes x a c → Completes y a d → Completes (try x y) a (tried c d)
+try-table {c = c} {d = d} p q = Figure3.completes-try c d p q
+
+-- `higher` and `lower` are the greater and the lesser in the order failure, waiting, success.
+pub higher-is-max : (c d : Status) → rank (higher c d) ≡ max (rank c) (rank d)
+higher-is-max = Order.higher-is-max
+
+pub lower-is-min : (c d : Status) → rank (lower c d) ≡ min (rank c) (rank d)
+lower-is-min = Order.lower-is-min
+
+-- `join` is union: recipient i is in it exactly where it is in one of the two sets.
+pub join-recipient : (A B i : ℕ) → join A B / 2 ^ i % 2 ≡ max (A / 2 ^ i % 2) (B / 2 ^ i % 2)
+join-recipient = Sets.join-recipient
+
+-- ---- Adequacy: a status other than waiting leaves silent, and silent answers "none, waiting" for ever
+
+pub completed-is-silent : {x x' : Expr} {a : ℕ} {c : Status} → Completes x a c → c ≢ Waiting → Becomes x a x' → x' ≡ silent
+completed-is-silent {x} {x'} {a} {c} p n q =
+    sym (figure-4 x a x' .0 q) ∙ Figure4.finished x a (λ e. n (sym (figure-3 x a c .0 p) ∙ e))
+
+pub silent-for-ever : (feed : List ℕ) → answers silent feed ≡ map (λ a. nothing) feed
+silent-for-ever = Silence.silent-answers
+
+-- ---- Alike parts may be exchanged anywhere, at one spot or several
+
+pub swapped-like : {x y : Expr} → Like x y → {u v : Expr} → Swapped x y u v → Like u v
+swapped-like = Congruence.swapped-like
+
+-- ---- The eight equations of section 6
+
+-- x | y = y | x
+pub either-comm : (x y : Expr) → Like (either x y) (either y x)
+either-comm = Equations.either-comm
+
+-- x | (y | z) = (x | y) | z
+pub either-assoc : (x y z : Expr) → Like (either x (either y z)) (either (either x y) z)
+either-assoc = Equations.either-assoc
+
+-- x | x = x
+pub either-self : (x : Expr) → Like (either x x) x
+either-self = Equations.either-self
+
+-- not not x = x
+pub not-not : (x : Expr) → Like (not (not x)) x
+not-not = Equations.not-not
+
+-- x ; (y ; z) = (x ; y) ; z
+pub then-assoc : (x y z : Expr) → Like (then x (then y z)) (then (then x y) z)
+then-assoc = Equations.then-assoc
+
+-- not (x ; y) = not x | x ; not y
+pub not-then : (x y : Expr) → Like (not (then x y)) (either (not x) (then x (not y)))
+not-then = Equations.not-then
+
+-- x ; try y unless z = try x ; y unless x ; z
+pub then-try : (x y z : Expr) → Like (then x (try y z)) (try (then x y) (then x z))
+then-try = Equations.then-try
+
+-- repeat x = x ; repeat x
+pub repeat-once : (x : Expr) → Like (repeat x) (then x (repeat x))
+repeat-once = Equations.repeat-once
+
+-- ---- Every pair of a closed list is alike
+
+pub closed-like : (pairs : List (Expr × Expr)) → Closed (λ x y. List·Memᴰ (x, y) pairs) → (x y : Expr) → List·Memᴰ (x, y) pairs → Like x y
+closed-like pairs = Closing.closed-like (λ x y. List·Memᴰ (x, y) pairs)
+
+-- ---- No rule outgrows its bounds, on any feed
+
+pub size-after : (x : Expr) (feed : List ℕ) → size (after x feed) ≤ (size x * size x + 3 * size x - 2) / 2
+size-after = Growth.size-after
+
+pub size-after-64 : (x : Expr) (feed : List ℕ) → size x ≤ 64 → size (after x feed) ≤ 2143
+size-after-64 = Growth.size-after-64
+
+pub made-after : (x : Expr) (feed : List ℕ) → made (after x feed) < size x
+made-after = Weight.made-after
+
+pub lines-after : (x : Expr) (feed : List ℕ) (a : ℕ) → lines (after x feed) a ≤ size x
+lines-after = Weight.lines-after
+
+pub notices-after : (k : ℕ) (x : Expr) (feed : List ℕ) (a : ℕ) → Fits k x → notices (after x feed) a < 2 ^ k
+notices-after = Throughout.notices-after-lt
+
+-- ---- An event that the expression does not name is waiting, sends nothing and alters no later notice or status
+
+pub unnamed-waits : (x : Expr) (a : ℕ) → Unnamed a x → (status x a ≡ Waiting) × (notices x a ≡ 0) × Like (remainder x a) x
+unnamed-waits x a u = (Unnamed.unnamed-status x a u, Unnamed.unnamed-notices x a u, Unnamed.unnamed-like x a u)
+
+-- ---- Equal expressions have equal record numbers, in a file with no two equal records
+
+pub one-record : (n : ℕ) (node : ℕ → Node) → File n node → (i j : ℕ) → i < n → j < n → expr node i ≡ expr node j → i ≡ j
+one-record = Records.one-record
+
+-- ---- P1 to P4 of document 01
+
+pub worked : Worked
+worked = Worked.worked
