@@ -1,6 +1,6 @@
 -- Equal notices and statuses on one feed, and how likeness on every feed is made of it and taken apart.
 use Prim.Native.Nat.{ℕ, _<_}
-use mathlib.Core.Path.{_≡_, refl, sym, ap, ap₂, _∙_}
+use mathlib.Core.Path.{_≡_, refl, sym, ap₂, _∙_}
 use mathlib.Core.List.{List, [], _∷_}
 use Rattle.par.specs.declared.Status.{Status}
 use Rattle.par.specs.Expr.{Expr}

@@ -8,9 +8,9 @@ pub mod Figure4
 pub mod Figure5
 pub mod Silence
 pub mod Agree
-pub mod Congruence
-pub mod Equations
-pub mod Closing
+pub mod LikeSwapped
+pub mod LikeEquations
+pub mod LikeClosed
 pub mod Measures
 pub mod Growth
 pub mod Weight

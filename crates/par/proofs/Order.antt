@@ -1,5 +1,5 @@
 -- The order of the statuses: `higher` and `lower` are the greater and the lesser, and no two statuses are one.
-use Prim.Native.Nat.{ℕ, min, max}
+use Prim.Native.Nat.{min, max}
 use mathlib.Core.Path.{_≡_, refl, ap}
 use mathlib.Core.Logic.{_≢_}
 use native.Mathlib.Omega.{arith}

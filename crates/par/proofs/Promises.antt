@@ -22,9 +22,9 @@ use Rattle.par.proofs.Figure4
 use Rattle.par.proofs.Figure5
 use Rattle.par.proofs.Silence.{nothing}
 use Rattle.par.proofs.Silence
-use Rattle.par.proofs.Congruence
-use Rattle.par.proofs.Equations
-use Rattle.par.proofs.Closing
+use Rattle.par.proofs.LikeSwapped
+use Rattle.par.proofs.LikeEquations
+use Rattle.par.proofs.LikeClosed
 use Rattle.par.proofs.Growth
 use Rattle.par.proofs.Weight
 use Rattle.par.proofs.Throughout
@@ -84,46 +84,46 @@ silent-for-ever = Silence.silent-answers
 -- ---- Alike parts may be exchanged anywhere, at one spot or several
 
 pub swapped-like : {x y : Expr} → Like x y → {u v : Expr} → Swapped x y u v → Like u v
-swapped-like = Congruence.swapped-like
+swapped-like = LikeSwapped.swapped-like
 
 -- ---- The eight equations of section 6
 
 -- x | y = y | x
 pub either-comm : (x y : Expr) → Like (either x y) (either y x)
-either-comm = Equations.either-comm
+either-comm = LikeEquations.either-comm
 
 -- x | (y | z) = (x | y) | z
 pub either-assoc : (x y z : Expr) → Like (either x (either y z)) (either (either x y) z)
-either-assoc = Equations.either-assoc
+either-assoc = LikeEquations.either-assoc
 
 -- x | x = x
 pub either-self : (x : Expr) → Like (either x x) x
-either-self = Equations.either-self
+either-self = LikeEquations.either-self
 
 -- not not x = x
 pub not-not : (x : Expr) → Like (not (not x)) x
-not-not = Equations.not-not
+not-not = LikeEquations.not-not
 
 -- x ; (y ; z) = (x ; y) ; z
 pub then-assoc : (x y z : Expr) → Like (then x (then y z)) (then (then x y) z)
-then-assoc = Equations.then-assoc
+then-assoc = LikeEquations.then-assoc
 
 -- not (x ; y) = not x | x ; not y
 pub not-then : (x y : Expr) → Like (not (then x y)) (either (not x) (then x (not y)))
-not-then = Equations.not-then
+not-then = LikeEquations.not-then
 
 -- x ; try y unless z = try x ; y unless x ; z
 pub then-try : (x y z : Expr) → Like (then x (try y z)) (try (then x y) (then x z))
-then-try = Equations.then-try
+then-try = LikeEquations.then-try
 
 -- repeat x = x ; repeat x
 pub repeat-once : (x : Expr) → Like (repeat x) (then x (repeat x))
-repeat-once = Equations.repeat-once
+repeat-once = LikeEquations.repeat-once
 
 -- ---- Every pair of a closed list is alike
 
 pub closed-like : (pairs : List (Expr × Expr)) → Closed (λ x y. List·Memᴰ (x, y) pairs) → (x y : Expr) → List·Memᴰ (x, y) pairs → Like x y
-closed-like pairs = Closing.closed-like (λ x y. List·Memᴰ (x, y) pairs)
+closed-like pairs = LikeClosed.closed-like (λ x y. List·Memᴰ (x, y) pairs)
 
 -- ---- No rule outgrows its bounds, on any feed
 

@@ -11,8 +11,8 @@ use Rattle.par.specs.Throughout.{Unnamed}
 use Rattle.par.proofs.Sets.{none-join}
 use Rattle.par.proofs.Figure3.{other-event}
 use Rattle.par.proofs.Agree.{like-refl, like-sym, like-trans}
-use Rattle.par.proofs.Congruence.{not-like, notify-like, either-like, then-like, try-like}
-use Rattle.par.proofs.Equations.{repeat-once}
+use Rattle.par.proofs.LikeSwapped.{not-like, notify-like, either-like, then-like, try-like}
+use Rattle.par.proofs.LikeEquations.{repeat-once}
 
 pub unnamed-status : (x : Expr) (a : ℕ) → Unnamed a x → status x a ≡ Waiting
 unfolding status
