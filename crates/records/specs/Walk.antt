@@ -1,8 +1,9 @@
 -- Reading a file from the front, record by record: one definition for every kind of file, over the number that a record's body gets.
 use Prim.Native.Nat.{ℕ, zero, suc}
+use mathlib.Core.Path.{_≡_}
 use mathlib.Core.List.{List, [], _∷_, _++_}
 use mathlib.Core.Bool.{cond}
-use lib.ListN.{length}
+use lib.ListN.{length, drop}
 use lib.Dec.{eqb}
 use Rattle.records.specs.declared.Contents.{Contents}
 use Rattle.records.specs.declared.Next.{Next}
@@ -47,3 +48,10 @@ walk turns (suc fuel) pos ps = follow pos ps (turns pos ps) (walk turns fuel)
 
 unfoldable pub walked : (ℕ → List ℕ → Turn) → ℕ → Found
 walked turns size = walk turns (suc size) 0 []
+
+-- what a function that reads into a table of places says: the table, once `was`, is `is`
+pub record ReadTo (f : Found) (number count place : ℕ) (was is : List ℕ) : Type 0 where
+  pub numbered : number ≡ f .number
+  pub placed : place ≡ f .place
+  pub counted : count ≡ length (f .places)
+  pub table : is ≡ f .places ++ drop (length (f .places)) was
