@@ -4,7 +4,7 @@ use crate::generate::closing::{closed, Proposal};
 use crate::generate::trees::{random_alphabet, random_notices, tree_of_size};
 use crate::pair_file::{Pair, MOST_PAIRS};
 use crate::random::Random;
-use crate::tree::build::{either, not, notify, repeat, then, try_unless};
+use crate::tree::build::{either, event, not, notify, repeat, then, try_unless};
 use crate::tree::Tree;
 
 pub const EQUATIONS: usize = 8;
@@ -40,7 +40,7 @@ pub fn true_proposal(random: &mut Random) -> (usize, Proposal) {
 pub fn proposal_from(random: &mut Random, equation: usize) -> Option<Proposal> {
     let alphabet = random_alphabet(random);
     let mut part = || {
-        let size = random.between(1, 6);
+        let size = random.between(1, 8);
         tree_of_size(random, &alphabet, size)
     };
     let (x, y, z) = (part(), part(), part());
@@ -48,12 +48,27 @@ pub fn proposal_from(random: &mut Random, equation: usize) -> Option<Proposal> {
     if random.once_in(2) {
         (left, right) = (right, left);
     }
-    for _ in 0..random.below(4) {
+    for _ in 0..random.below(6) {
         (left, right) = in_context(random, &alphabet, &left, &right);
     }
     let mut proposal = closed(&left, &right)?;
     rearrange(random, &mut proposal);
     Some(proposal)
+}
+
+/// The first equation between two chains of events, all different: a pair for every state of both.
+///
+/// Chains of 16 and 16 events fill the pair file; longer ones don't fit.
+pub fn commuting_chains(first_length: u8, second_length: u8) -> Option<Proposal> {
+    let chain = |from: u8, length: u8| {
+        let last = event(from + length - 1);
+        let earlier = (from..from + length - 1).rev();
+        earlier.fold(last, |rest, byte| then(&event(byte), &rest))
+    };
+    let x = chain(0, first_length);
+    let y = chain(first_length, second_length);
+    let (left, right) = sides(0, &x, &y, &x);
+    closed(&left, &right)
 }
 
 /// The same random construct around both.

@@ -79,7 +79,9 @@ pub fn random_printer_input(random: &mut Random) -> Vec<u8> {
     let (rule_file, events) = rule_and_events(random, 60);
     let mut length = rule_file.len() as u16;
     if random.once_in(10) {
-        length = length.wrapping_add(random.between(0, 4) as u16).wrapping_sub(2);
+        length = length
+            .wrapping_add(random.between(0, 4) as u16)
+            .wrapping_sub(2);
     }
     printer_input(length, &rule_file, &events)
 }

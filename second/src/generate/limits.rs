@@ -7,7 +7,10 @@ use crate::pair_file::Pair;
 /// An event and a not around each record: size and number of records are the same.
 pub fn chain_of_nots(count: usize) -> Vec<Record> {
     let nots = (0..).map(Not);
-    std::iter::once(Event(b'a')).chain(nots).take(count).collect()
+    std::iter::once(Event(b'a'))
+        .chain(nots)
+        .take(count)
+        .collect()
 }
 
 /// Each record holds the one before twice: record k has 2 to the power k + 1, less 1, nodes.
@@ -35,6 +38,18 @@ pub fn past_a_power_of_two(bits: u16, nots: u16) -> Vec<Record> {
     let mut records = doubling(usize::from(bits));
     records.extend((0..nots).map(|more| Not(bits - 1 + more)));
     records
+}
+
+/// Records that nothing needs behind those that are there, until there are so many.
+pub fn padded(records: &[Record], count: usize) -> Vec<Record> {
+    let mut padded = records.to_vec();
+    let mut unused = (0..=u16::MAX)
+        .map(|notices| Notify(0, notices))
+        .filter(|record| !records.contains(record));
+    while padded.len() < count {
+        padded.extend(unused.next());
+    }
+    padded
 }
 
 /// The same pair so many times: repeats are allowed.

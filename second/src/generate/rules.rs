@@ -60,7 +60,7 @@ fn random_record(random: &mut Random, alphabet: &[u8], earlier: usize) -> Record
         6 | 7 => Then(x, y),
         8 => Repeat(x),
         9 => Notify(x, random_notices(random)),
-        10 => Notify(x, random.next() as u16),
+        10 => Notify(x, random.number() as u16),
         _ => Try(x, y),
     }
 }

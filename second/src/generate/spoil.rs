@@ -9,7 +9,7 @@ use crate::random::Random;
 pub fn spoiled(random: &mut Random, proposal: &Proposal) -> Proposal {
     loop {
         let mut changed = proposal.clone();
-        match random.below(6) {
+        match random.below(9) {
             0 => drop_a_pair(random, &mut changed),
             1 => turn_a_pair_round(random, &mut changed),
             2 => name_another_record(random, &mut changed),

@@ -17,7 +17,7 @@ pub fn random_alphabet(random: &mut Random) -> Vec<u8> {
 pub fn random_notices(random: &mut Random) -> u16 {
     match random.below(4) {
         0 => *random.pick(&[0, 0x8000, 0xffff, 0x0100, 0x00ff]),
-        1 => random.next() as u16,
+        1 => random.number() as u16,
         _ => 1 << random.below(16),
     }
 }

@@ -1,0 +1,2 @@
+// Running a rule.
+pub mod moves; // moves.rt: one event on the nodes of a rule
