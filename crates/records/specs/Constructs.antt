@@ -1,5 +1,5 @@
 -- What a record of an expression file says.
-use Prim.Native.Nat.{ℕ, _+_}
+use Prim.Native.Nat.{ℕ, _+_, _<_}
 use mathlib.Core.List.{List}
 use mathlib.Core.Bool.{Bool, true, cond, _&&_}
 use lib.ListN.{getD}
@@ -45,3 +45,14 @@ keyOf (Then x y) = record { kind = 5; x = x; y = y }
 keyOf (Repeat x) = record { kind = 6; x = x; y = 0 }
 keyOf (Notify x A) = record { kind = 7; x = x; y = A }
 keyOf (Try x y) = record { kind = 8; x = x; y = y }
+
+-- its event is a byte, and its notice set fits 16 bits
+abbrev pub InRange : Node → Type 0
+InRange Silent = Unit {0}
+InRange (Event b) = b < 256
+InRange (Not x) = Unit {0}
+InRange (Either x y) = Unit {0}
+InRange (Then x y) = Unit {0}
+InRange (Repeat x) = Unit {0}
+InRange (Notify x A) = A < 65536
+InRange (Try x y) = Unit {0}

@@ -49,9 +49,9 @@ walk turns (suc fuel) pos ps = follow pos ps (turns pos ps) (walk turns fuel)
 unfoldable pub walked : (ℕ → List ℕ → Turn) → ℕ → Found
 walked turns size = walk turns (suc size) 0 []
 
--- what a function that reads into a table of places says: the table, once `was`, is `is`
+-- what code that reads a file into a lent table answers: what was found, and in the table the places of the records, then what it held before
 pub record ReadTo (f : Found) (number count place : ℕ) (was is : List ℕ) : Type 0 where
-  pub numbered : number ≡ f .number
-  pub placed : place ≡ f .place
-  pub counted : count ≡ length (f .places)
-  pub table : is ≡ f .places ++ drop (length (f .places)) was
+  pub number-is : number ≡ f .number
+  pub count-is : count ≡ length (f .places)
+  pub place-is : place ≡ f .place
+  pub table-is : is ≡ f .places ++ drop (length (f .places)) was

@@ -6,7 +6,6 @@ ghost use Rattle.records.specs.Fields.{wordAt};
 ghost use Rattle.records.specs.Kinds.{kindOf, lengthIn, mostOf};
 ghost use Rattle.records.specs.Constructs.{nodeAt, earlierIn, keyOf};
 ghost use Rattle.records.specs.Next.{nextAt};
-
 use par::Node;
 
 // What a file holds.

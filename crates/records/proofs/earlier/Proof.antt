@@ -1,84 +1,67 @@
+-- `records::earlier` meets its contract, construct by construct.
+use mathlib.Core.Path.{sym, ap, _∙_}
+use borrow.Author.Tests.{lt-ltb, le-ltb}
 use borrow.Author.Needs.{needs}
+use Rattle.records.specs.Constructs.{earlierIn}
 use Rattle.records.proofs.earlier.Statement.{statement}
 use Rattle.records.proofs.earlier.Tie as tie
-use Rattle.records.proofs.earlier.Reads as reads
-use Rattle.records.proofs.earlier.Lts as lts
 
--- src/lib.rt:157:25
 enum-told : tie.Need-enum-told
 enum-told c = search needs
 
--- src/lib.rt:158:27
 enum-told-2 : tie.Need-enum-told-2
 enum-told-2 c = search needs
 
--- src/lib.rt:159:19
 enum-known-node : tie.Need-enum-known-node
 enum-known-node c = search needs
 
--- src/lib.rt:160:22
 enum-known-node-2 : tie.Need-enum-known-node-2
 enum-known-node-2 c = search needs
 
--- src/lib.rt:161:20
 enum-known-node-3 : tie.Need-enum-known-node-3
 enum-known-node-3 c = search needs
 
--- src/lib.rt:162:22
 enum-known-node-4 : tie.Need-enum-known-node-4
 enum-known-node-4 c = search needs
 
--- src/lib.rt:163:22
 enum-known-node-5 : tie.Need-enum-known-node-5
 enum-known-node-5 c = search needs
 
--- src/lib.rt:164:19
 enum-known-node-6 : tie.Need-enum-known-node-6
 enum-known-node-6 c = search needs
 
--- src/lib.rt:153:1
 returns : tie.Need-returns
 returns c = search needs
 
--- src/lib.rt:153:1
 returns-2 : tie.Need-returns-2
 returns-2 c = search needs
 
--- src/lib.rt:153:1
 returns-3 : tie.Need-returns-3
-returns-3 c = ?
+returns-3 c = sym (ap (earlierIn (c .before .before .before .args .count)) (c .before .node .given .1))
 
--- src/lib.rt:153:1
 returns-4 : tie.Need-returns-4
-returns-4 c = ?
+returns-4 c = sym (ap (earlierIn (c .before .before .before .before .args .count)) (c .before .before .node2 .given .1) ∙ simp (lt-ltb _ _ (c .if1 .taken)))
 
--- src/lib.rt:153:1
 returns-5 : tie.Need-returns-5
-returns-5 c = ?
+returns-5 c = sym (ap (earlierIn (c .before .before .before .before .args .count)) (c .before .before .node2 .given .1) ∙ simp (le-ltb _ _ (c .if1 .left)))
 
--- src/lib.rt:153:1
 returns-6 : tie.Need-returns-6
-returns-6 c = ?
+returns-6 c = sym (ap (earlierIn (c .before .before .before .before .args .count)) (c .before .before .node3 .given .1) ∙ simp (lt-ltb _ _ (c .if2 .taken)))
 
--- src/lib.rt:153:1
 returns-7 : tie.Need-returns-7
-returns-7 c = ?
+returns-7 c = sym (ap (earlierIn (c .before .before .before .before .args .count)) (c .before .before .node3 .given .1) ∙ simp (le-ltb _ _ (c .if2 .left)))
 
--- src/lib.rt:153:1
 returns-8 : tie.Need-returns-8
-returns-8 c = ?
+returns-8 c = sym (ap (earlierIn (c .before .before .before .args .count)) (c .before .node4 .given .1))
 
--- src/lib.rt:153:1
 returns-9 : tie.Need-returns-9
-returns-9 c = ?
+returns-9 c = sym (ap (earlierIn (c .before .before .before .args .count)) (c .before .node5 .given .1))
 
--- src/lib.rt:153:1
 returns-10 : tie.Need-returns-10
-returns-10 c = ?
+returns-10 c = sym (ap (earlierIn (c .before .before .before .before .args .count)) (c .before .before .node6 .given .1) ∙ simp (lt-ltb _ _ (c .if3 .taken)))
 
--- src/lib.rt:153:1
 returns-11 : tie.Need-returns-11
-returns-11 c = ?
+returns-11 c = sym (ap (earlierIn (c .before .before .before .before .args .count)) (c .before .before .node6 .given .1) ∙ simp (le-ltb _ _ (c .if3 .left)))
 
 pub earlier-spec : {M : Type 1} → statement M
 earlier-spec =

@@ -1,73 +1,69 @@
+-- `records::next_record` meets its contract: at each return, what is returned stands at the place.
+use mathlib.Core.Path.{_≡_}
+use native.Mathlib.Omega.{arith}
 use borrow.Author.Needs.{needs}
+use Rattle.records.specs.Says.{wanted}
+use Rattle.records.specs.Says.{Stands.ended, Stands.too-many, Stands.no-header, Stands.not-listed, Stands.wrong-length, Stands.cut-short, Stands.whole}
+use Rattle.records.proofs.Says.{stands-next}
 use Rattle.records.proofs.next_record.Statement.{statement}
 use Rattle.records.proofs.next_record.Tie as tie
-use Rattle.records.proofs.next_record.Reads as reads
-use Rattle.records.proofs.next_record.Lts as lts
-use Rattle.records.proofs.kind_of.Reads as kind-of-reads
-use Rattle.records.proofs.length_in.Reads as length-in-reads
-use Rattle.records.proofs.most.Reads as most-reads
-use Rattle.records.proofs.number.Reads as number-reads
-use Rattle.records.proofs.word_at.Reads as word-at-reads
 
--- src/lib.rt:197:9
 returns : tie.Need-returns
-returns c = ?
+returns c = stands-next (ended (omega arith))
 
--- src/lib.rt:199:8
 most-requires : tie.Need-most-requires
 most-requires c κs = search needs
 
--- src/lib.rt:200:9
 returns-2 : tie.Need-returns-2
-returns-2 c = ?
+returns-2 c = stands-next (too-many (omega arith) (omega arith))
 
--- src/lib.rt:202:16
 sub-left : tie.Need-sub-left
 sub-left c = search needs
 
--- src/lib.rt:204:9
 returns-3 : tie.Need-returns-3
-returns-3 c = ?
+returns-3 c = stands-next (no-header (omega arith) (omega arith))
 
--- src/lib.rt:206:44
 word-at-requires : tie.Need-word-at-requires
 word-at-requires c κs = search needs
 
--- src/lib.rt:206:36
 kind-of-requires : tie.Need-kind-of-requires
 kind-of-requires c κs = search needs
 
--- src/lib.rt:206:9
 length-in-requires : tie.Need-length-in-requires
 length-in-requires c κs = search needs
 
--- src/lib.rt:208:9
 returns-4 : tie.Need-returns-4
-returns-4 c = ?
+returns-4 c =
+    let a = c .before .before .before .before .before .before .before .before .before .args in
+    let w : c .before .length-in .result ≡ wanted (a .s .now) (a .contents) (a .pos) = cc in
+    stands-next (not-listed (omega arith) (omega arith))
 
--- src/lib.rt:210:9
 word-at-requires-2 : tie.Need-word-at-requires-2
 word-at-requires-2 c κs = search needs
 
--- src/lib.rt:212:9
 returns-5 : tie.Need-returns-5
-returns-5 c = ?
+returns-5 c =
+    let a = c .before .before .before .before .before .before .before .before .before .before .before .args in
+    let w : c .before .before .before .length-in .result ≡ wanted (a .s .now) (a .contents) (a .pos) = cc in
+    stands-next (wrong-length (omega arith) (omega arith))
 
--- src/lib.rt:214:9
 number-requires : tie.Need-number-requires
 number-requires c κs = search needs
 
--- src/lib.rt:216:9
 returns-6 : tie.Need-returns-6
-returns-6 c = ?
+returns-6 c =
+    let a = c .before .before .before .before .before .before .before .before .before .before .before .before .before .args in
+    let w : c .before .before .before .before .before .length-in .result ≡ wanted (a .s .now) (a .contents) (a .pos) = cc in
+    stands-next (cut-short (omega arith) (omega arith))
 
--- src/lib.rt:218:18
 add-t11 : tie.Need-add-t11
 add-t11 c = search needs
 
--- src/lib.rt:192:1
 returns-7 : tie.Need-returns-7
-returns-7 c = ?
+returns-7 c =
+    let a = c .before .before .before .before .before .before .before .before .before .before .before .before .before .args in
+    let w : c .before .before .before .before .before .length-in .result ≡ wanted (a .s .now) (a .contents) (a .pos) = cc in
+    rw (c .before .number .ensures, c .before .before .before .word-at2 .ensures) (stands-next (whole (omega arith) (omega arith)))
 
 pub next-record-spec : {M : Type 1} → statement M
 next-record-spec =
