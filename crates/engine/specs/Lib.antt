@@ -1,4 +1,8 @@
--- Running a rule: its nodes and what they stand for, one event, the whole feed, the desk.
+-- Running a rule: its nodes and what they stand for, one event, the rule written out, the whole feed, the desk.
 pub mod Nodes
 pub mod Moves
 pub mod Means
+pub mod WrittenOut
+pub mod Feed
+pub mod Desk
+pub mod History

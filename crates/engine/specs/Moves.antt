@@ -1,7 +1,7 @@
 -- One event on the nodes of a rule, as the code does it, on any nodes whatever. F are the nodes, S their notice sets, P their phases.
 use Prim.Native.Nat.{ℕ, zero, suc, _+_, _-_, _/_, _%_, _<_}
 use mathlib.Core.Path.{_≡_}
-use mathlib.Core.Bool.{cond}
+use mathlib.Core.Bool.{Bool, true, cond}
 use mathlib.Core.List.{List}
 use lib.ListN.{getD, set}
 use lib.Dec.{eqb, leb, ltb}
@@ -146,3 +146,18 @@ module _ (F S : List ℕ) (a : ℕ) where
 -- what a step says of its word w, and of the phases and the set that it leaves
 abbrev pub Steps : List ℕ → List ℕ → ℕ → ℕ → ℕ → List ℕ → ℕ → ℕ → List ℕ → ℕ → Type 0
 Steps F S a lo r P sent w P' sent' = (f : ℕ) → r < f → made (wordStatus w) (wordLines w) P' sent' ≡ stepped F S a f lo r P sent
+
+-- ---- one event on a whole rule
+
+-- a rule that has completed stays so
+abbrev pub over : Bool → Status → Bool
+over done Waiting = done
+over done Success = true
+over done Failure = true
+
+-- "waiting, none" in one line where the rule is done
+unfoldable pub advanced : List ℕ → List ℕ → ℕ → Bool → ℕ → List ℕ → ℕ → Made
+advanced F S root done a P sent = cond done (made Waiting 1 P sent) (cond (leb 64 root) (made Waiting 1 P sent) (stepped F S a (suc root) 0 root P sent))
+
+abbrev pub Advances : List ℕ → List ℕ → ℕ → Bool → ℕ → List ℕ → ℕ → ℕ → List ℕ → ℕ → Type 0
+Advances F S root done a P sent w P' sent' = made (wordStatus w) (wordLines w) P' sent' ≡ advanced F S root done a P sent

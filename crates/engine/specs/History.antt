@@ -1,0 +1,63 @@
+-- What a desk answers to any openings and steps: a book keeps the rule that was opened last and the events since, and the figures say the rest.
+use Prim.Native.Nat.{ℕ}
+use mathlib.Core.Bool.{cond}
+use mathlib.Core.List.{List, [], _∷_, _++_}
+use lib.Dec.{eqb, ltb}
+use Rattle.par.specs.Expr.{Expr, size}
+use Rattle.par.specs.Feed.{answer, after}
+use Rattle.files.specs.Rule.{rule, ruleNumber}
+use Rattle.engine.specs.declared.Desk.{Desk}
+use Rattle.engine.specs.declared.Reply.{Reply}
+use Rattle.engine.specs.Desk.{emptyDesk, openedOf, steppedOf, refusal}
+
+-- a call on a desk, and what comes back of it
+pub data Call : Type 0 where
+  opening : List ℕ → Call
+  stepping : ℕ → Call
+
+pub data Back : Type 0 where
+  numbered : ℕ → Back
+  replied : Reply → Back
+
+-- ---- the desk, as the code moves it
+
+abbrev pub deskAfter : Desk → Call → Desk
+deskAfter d (opening s) = openedOf d s .desk
+deskAfter d (stepping a) = steppedOf d a .desk
+
+abbrev pub deskBack : Desk → Call → Back
+deskBack d (opening s) = numbered (openedOf d s .number)
+deskBack d (stepping a) = replied (steppedOf d a .reply)
+
+unfoldable pub desksAfter : Desk → List Call → Desk
+desksAfter d [] = d
+desksAfter d (c ∷ calls) = desksAfter (deskAfter d c) calls
+
+unfoldable pub desksBack : Desk → List Call → List Back
+desksBack d [] = []
+desksBack d (c ∷ calls) = deskBack d c ∷ desksBack (deskAfter d c) calls
+
+-- ---- the book
+
+pub data Book : Type 0 where
+  closed : Book
+  «open» : Expr → List ℕ → Book
+
+-- the number of a step: 16 where the remainder would have more than 4,096 nodes
+abbrev pub stepNumber : Expr → List ℕ → ℕ → ℕ
+stepNumber x feed a = cond (ltb 4096 (size (after x (feed ++ (a ∷ []))))) 16 0
+
+abbrev pub bookAfter : Book → Call → Book
+bookAfter b (opening s) = cond (eqb (ruleNumber s) 0) («open» (rule s) []) b
+bookAfter closed (stepping a) = closed
+bookAfter («open» x feed) (stepping a) = cond (eqb (stepNumber x feed a) 0) («open» x (feed ++ (a ∷ []))) («open» x feed)
+
+abbrev pub bookBack : Book → Call → Back
+bookBack b (opening s) = numbered (ruleNumber s)
+bookBack closed (stepping a) = replied (refusal 15)
+bookBack («open» x feed) (stepping a) =
+    replied (cond (eqb (stepNumber x feed a) 0) (record { number = 0; answer = answer (after x feed) a }) (refusal 16))
+
+unfoldable pub booksBack : Book → List Call → List Back
+booksBack b [] = []
+booksBack b (c ∷ calls) = bookBack b c ∷ booksBack (bookAfter b c) calls

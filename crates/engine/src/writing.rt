@@ -1,0 +1,102 @@
+// A rule's file becomes the nodes that the engine runs: shared parts written out, parts before their whole.
+ghost use mathlib.Core.Path.{_≡_};
+ghost use Prim.Native.Nat.{_<_};
+ghost use lib.ListN.{length};
+ghost use Rattle.files.specs.Rule.{nodeIn};
+ghost use Rattle.engine.specs.WrittenOut.{wrote, put, Room, Writes, nodesOf};
+
+use par::Node;
+use par::Notices;
+
+// Writes one node behind the first `count`, with its notice set; how many there are then.
+fn put_node(
+    fixed: &mut [u32; 64],
+    sets: &mut [Notices; 64],
+    count: usize,
+    kind: u32,
+    x: usize,
+    y: usize,
+    set: Notices,
+) -> usize
+    requires { ⌜ ((count < 64) × (length (now fixed) ≡ 64) × (length (now sets) ≡ 64)) × ((kind < 256) × (x < 256) × (y < 256)) ⌝ }
+    ensures { λ n. ⌜ wrote (now (fixed .exit)) (now (sets .exit)) n ≡ put (wrote (now (fixed .entry)) (now (sets .entry)) count) kind x y set ⌝ }
+{
+    fixed[count] = crate::moves::pack(kind, x, y);
+    sets[count] = set;
+    count + 1
+}
+
+// Writes the expression of record r out behind the first `count` nodes; how many nodes there are then. The last is its root.
+fn write_out(
+    file: &[u8],
+    at: &[usize],
+    r: usize,
+    fixed: &mut [u32; 64],
+    sets: &mut [Notices; 64],
+    count: usize,
+) -> usize
+    requires { ⌜ Room (nodeIn (now file) (now at)) (length (now at)) r count (now fixed) (now sets) ⌝ }
+    ensures { λ n. ⌜ Writes (nodeIn (now (file .entry)) (now (at .entry))) r (wrote (now (fixed .entry)) (now (sets .entry)) count) (wrote (now (fixed .exit)) (now (sets .exit)) n) ⌝ }
+{
+    let p = at[r];
+    match records::node_at(file, p) {
+        Node::Silent => put_node(fixed, sets, count, 1, 0, 0, 0),
+        Node::Event(e) => put_node(fixed, sets, count, 2, e as usize, 0, 0),
+        Node::Not(x) => {
+            let n = write_out(file, at, x, fixed, sets, count);
+            put_node(fixed, sets, n, 3, n - 1, 0, 0)
+        }
+        Node::Either(x, y) => {
+            let n = write_out(file, at, x, fixed, sets, count);
+            let m = write_out(file, at, y, fixed, sets, n);
+            put_node(fixed, sets, m, 4, n - 1, m - 1, 0)
+        }
+        Node::Then(x, y) => {
+            let n = write_out(file, at, x, fixed, sets, count);
+            let m = write_out(file, at, y, fixed, sets, n);
+            put_node(fixed, sets, m, 5, n - 1, m - 1, 0)
+        }
+        Node::Repeat(x) => {
+            let n = write_out(file, at, x, fixed, sets, count);
+            put_node(fixed, sets, n, 6, n - 1, 0, 0)
+        }
+        Node::Notify(x, set) => {
+            let n = write_out(file, at, x, fixed, sets, count);
+            put_node(fixed, sets, n, 7, n - 1, 0, set)
+        }
+        Node::Try(x, y) => {
+            let n = write_out(file, at, x, fixed, sets, count);
+            let m = write_out(file, at, y, fixed, sets, n);
+            put_node(fixed, sets, m, 8, n - 1, m - 1, 0)
+        }
+    }
+}
+
+// A rule file's number and, at 0, its nodes, their notice sets and the number of the root. Refused, no node stands.
+pub struct Nodes {
+    pub number: u8,
+    pub root: usize,
+    pub fixed: [u32; 64],
+    pub sets: [Notices; 64],
+}
+
+// The nodes of any bytes: the number is that of the file, then 8.
+pub fn nodes_of(rule: &[u8]) -> Nodes
+    ensures { λ r. ⌜ r ≡ nodesOf (now (rule .entry)) ⌝ }
+{
+    let mut fixed = [0u32; 64];
+    let mut sets = [0; 64];
+    let mut at = [0usize; 1024];
+    let mut ix = [0usize; 1024];
+    let reading = files::read_expressions(rule, &mut at, &mut ix);
+    let number = reading.number;
+    let count = reading.count;
+    if number != 0 {
+        return Nodes { number, root: 0, fixed, sets };
+    }
+    if 64 < files::sizes::rule_size(rule, &at, count) {
+        return Nodes { number: 8, root: 0, fixed, sets };
+    }
+    let n = write_out(rule, &at[..count], count - 1, &mut fixed, &mut sets, 0);
+    Nodes { number: 0, root: n - 1, fixed, sets }
+}
