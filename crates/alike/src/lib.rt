@@ -8,7 +8,6 @@ ghost use mathlib.Core.Path.{_≡_};
 ghost use lib.ListN.{drop};
 ghost use Rattle.alike.specs.Verdict.{judged, shownOf};
 ghost use Rattle.alike.specs.Ready.{Ready, Settles};
-
 use verdict::Fault;
 
 // The number, whether the faulty record is in the pair file, and its place there.
@@ -42,7 +41,17 @@ fn settle(
     let mut px = [0usize; 256];
     let entries = columns::sort(&marks, &lefts, &rights, listed, &mut px);
     verdict::first_fault(
-        &kinds, &xs, &ys, ix, count, &marks, &lefts, &rights, &px, listed, entries,
+        &kinds,
+        &xs,
+        &ys,
+        ix,
+        count,
+        &marks,
+        &lefts,
+        &rights,
+        &px,
+        listed,
+        entries,
     )
 }
 

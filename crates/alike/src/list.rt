@@ -5,7 +5,6 @@ ghost use lib.ListN.{length};
 ghost use Rattle.files.specs.Index.{Sorted};
 ghost use Rattle.alike.specs.Columns.{keyAt, Held};
 ghost use Rattle.alike.specs.List.{statusOf, partAt, planAt, Level, Looked, RestAt, Filled, expressions};
-
 use crate::columns;
 use crate::plans;
 use crate::plans::Part;
@@ -77,7 +76,14 @@ fn plan_at(
 }
 
 // The number of the record with this key; 1,024 where there is none.
-pub fn look_up(kinds: &[u8], xs: &[usize], ys: &[u64], ix: &[usize], count: usize, key: Key) -> usize
+pub fn look_up(
+    kinds: &[u8],
+    xs: &[usize],
+    ys: &[u64],
+    ix: &[usize],
+    count: usize,
+    key: Key,
+) -> usize
     requires { ⌜ Held (now kinds) (now xs) (now ys) count × (count ≤ length (now ix)) × Sorted (keyAt (now kinds) (now xs) (now ys)) count (now ix) count ⌝ }
     ensures { λ q. ⌜ Looked (now (kinds .entry)) (now (xs .entry)) (now (ys .entry)) count key q ⌝ }
 {
@@ -136,7 +142,17 @@ pub fn fill(
     );
     let mut r = 0;
     while r < count {
-        let plan = plan_at(kinds, xs, ys, event, &*notices, &*statuses, &*remains, count, r);
+        let plan = plan_at(
+            kinds,
+            xs,
+            ys,
+            event,
+            &*notices,
+            &*statuses,
+            &*remains,
+            count,
+            r,
+        );
         let rest = plan.rest;
         let status = plan.status;
         let at = place_rest(kinds, xs, ys, ix, count, still, rest);

@@ -2,7 +2,6 @@
 ghost use mathlib.Core.Path.{_≡_};
 ghost use lib.Dec.{eqb};
 ghost use Rattle.alike.specs.Plans.{planSilent, planEvent, planNot, planNext, planNotify, planEither, planTry};
-
 use par::Notices;
 use par::Status;
 use records::Key;

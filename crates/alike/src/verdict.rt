@@ -2,7 +2,6 @@
 ghost use mathlib.Core.Path.{_≡_};
 ghost use Prim.Native.Nat.{_≤_, _<_};
 ghost use Rattle.alike.specs.Verdict.{faultOf, Judging, Best, firstFault};
-
 use crate::columns;
 use crate::list;
 use crate::plans::Part;

@@ -7,7 +7,6 @@ ghost use lib.Seq.{sets as setsAt};
 ghost use Rattle.par.specs.Status.{statusByte};
 ghost use Rattle.engine.specs.Moves.{Advances};
 ghost use Rattle.engine.specs.Feed.{answerRecord, fedBytes, ranNumber, Fed};
-
 use par::Notices;
 
 // One event on a rule whose nodes stand from 0 up to `root`: as `moves::step`, and "waiting, none" in one line where the rule is done.
@@ -101,8 +100,18 @@ pub fn run(rule: &[u8], events: &[u8], answers: &mut [u8], place: usize) -> Ran
         return Ran { number, written: 0 };
     }
     if has_room(answers.len(), place, events.len()) {
-        let written = feed(&nodes.fixed, &nodes.sets, nodes.root, events, answers, place);
+        let written = feed(
+            &nodes.fixed,
+            &nodes.sets,
+            nodes.root,
+            events,
+            answers,
+            place,
+        );
         return Ran { number: 0, written };
     }
-    Ran { number: 9, written: 0 }
+    Ran {
+        number: 9,
+        written: 0,
+    }
 }

@@ -3,11 +3,10 @@ pub mod moves; // moves.rt: one event on the nodes of a rule
 pub mod writing; // writing.rt: a rule's file becomes its nodes
 pub mod feed; // feed.rt: the whole feed
 
-pub use feed::run;
 pub use feed::Ran;
+pub use feed::run;
 ghost use mathlib.Core.Path.{_≡_};
 ghost use Rattle.engine.specs.Desk.{emptyDesk, steppedOf, openedOf};
-
 use par::Answer;
 use par::Notices;
 use par::Status;
@@ -85,7 +84,15 @@ pub fn stepped(d: Desk, event: u8) -> Moved
     if is {
         let mut phases = d.phases;
         let mut sent = 0;
-        let w = feed::advance(&d.fixed, &d.sets, &mut phases, &mut sent, d.root, d.done, event);
+        let w = feed::advance(
+            &d.fixed,
+            &d.sets,
+            &mut phases,
+            &mut sent,
+            d.root,
+            d.done,
+            event,
+        );
         let status = moves::word_status(w);
         let mut next = d;
         next.phases = phases;

@@ -7,7 +7,6 @@ ghost use lib.ListN.{length};
 ghost use Rattle.engine.specs.Nodes.{packed};
 ghost use Rattle.engine.specs.Moves.{routeOf, oneStatus, onePhase, bothStatus, bothPhase, zeroed, freshened, told};
 ghost use Rattle.engine.specs.Moves.{wordStatus, wordLines, Steps};
-
 use par::Notices;
 use par::Status;
 

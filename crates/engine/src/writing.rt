@@ -4,7 +4,6 @@ ghost use Prim.Native.Nat.{_<_};
 ghost use lib.ListN.{length};
 ghost use Rattle.files.specs.Rule.{nodeIn};
 ghost use Rattle.engine.specs.WrittenOut.{wrote, put, Room, Writes, nodesOf};
-
 use par::Node;
 use par::Notices;
 
@@ -92,11 +91,26 @@ pub fn nodes_of(rule: &[u8]) -> Nodes
     let number = reading.number;
     let count = reading.count;
     if number != 0 {
-        return Nodes { number, root: 0, fixed, sets };
+        return Nodes {
+            number,
+            root: 0,
+            fixed,
+            sets,
+        };
     }
-    if 64 < files::sizes::rule_size(rule, &at, count) {
-        return Nodes { number: 8, root: 0, fixed, sets };
+    if 64 < files::sizes::rule_size(rule, &at[..count], count) {
+        return Nodes {
+            number: 8,
+            root: 0,
+            fixed,
+            sets,
+        };
     }
     let n = write_out(rule, &at[..count], count - 1, &mut fixed, &mut sets, 0);
-    Nodes { number: 0, root: n - 1, fixed, sets }
+    Nodes {
+        number: 0,
+        root: n - 1,
+        fixed,
+        sets,
+    }
 }

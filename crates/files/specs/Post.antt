@@ -12,7 +12,6 @@ use Rattle.files.specs.declared.Reading.{Reading}
 use Rattle.files.specs.declared.Rule.{Rule}
 use Rattle.files.specs.declared.Body.{Body}
 use Rattle.files.specs.declared.Body.the-variants.{Fault, Gap}
-use Rattle.files.specs.declared.index.Spot.{Spot}
 use Rattle.files.specs.declared.index.Spot.the-variants.{Gap as GapAt}
 use Rattle.files.specs.Reading.{expressionBody, reading, readingPairs}
 use Rattle.files.specs.Rule.{keyIn, cappedSize, nodeIn}

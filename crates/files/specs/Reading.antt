@@ -1,13 +1,12 @@
 -- The two files (document 01, "Expression file", "Pair file"): what a record's body must meet, and what reading the whole file finds.
 use Prim.Native.Nat.{ℕ, _<_}
 use mathlib.Core.Path.{_≡_}
-use mathlib.Core.Logic.{_≢_, _⊎_}
+use mathlib.Core.Logic.{_≢_}
 use mathlib.Core.List.{List, [], _∷_}
 use mathlib.Core.Bool.{Bool, false, cond, _&&_, _||_}
 use lib.ListN.{length, getD}
 use lib.Dec.{leb, eqb}
 use Rattle.par.specs.Records.{Parts}
-use Rattle.par.specs.declared.Node.{Node}
 use Rattle.records.specs.declared.Contents.the-variants.{Expressions, Pairs}
 use Rattle.records.specs.Fields.{wordAt}
 use Rattle.records.specs.declared.Key.{Key}

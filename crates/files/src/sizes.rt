@@ -1,11 +1,10 @@
 // Sizes with shared parts written out, filled from the front. They are capped at 65, which stands for every size above 64.
 ghost use mathlib.Core.Path.{_≡_};
-ghost use Prim.Native.Nat.{ℕ, _+_, _-_, _≤_, _<_, min};
+ghost use Prim.Native.Nat.{_-_, _≤_, _<_, min};
 ghost use lib.ListN.{length, getD};
 ghost use Rattle.par.specs.Records.{Parts};
 ghost use Rattle.files.specs.Rule.{nodeIn, Earlier, sizeFrom, cappedSize};
 ghost use Rattle.files.specs.Post.{Sized};
-
 use par::Node;
 
 fn capped(n: u64) -> u8

@@ -65,9 +65,9 @@ grow-same d e (Repeat x) u = cc
 grow-same d e (Notify x A) u = cc
 grow-same d e (Try x y) u = cc
 
--- ---- the records of a file
+-- ---- n records that name earlier ones
 
-module _ (n : ℕ) (node : ℕ → Node) (file : File n node) where
+module _ (n : ℕ) (node : ℕ → Node) (earlier : (r : ℕ) → r < n → Parts (λ p. p < r) (node r)) where
   -- following parts further than the record's number makes no difference
   within-same : (k l r : ℕ) → r < k → r < l → r < n → exprWithin node k r ≡ exprWithin node l r
   unfolding exprWithin
@@ -75,27 +75,31 @@ module _ (n : ℕ) (node : ℕ → Node) (file : File n node) where
   within-same (suc k) zero r h g w = absurd (omega arith)
   within-same (suc k) (suc l) r h g w =
       grow-same (exprWithin node k) (exprWithin node l) (node r)
-      (parts-map (λ p q. within-same k l p (omega arith) (omega arith) (omega arith)) (node r) (file .earlier r w))
+      (parts-map (λ p q. within-same k l p (omega arith) (omega arith) (omega arith)) (node r) (earlier r w))
 
   pub expr-step : (r : ℕ) → r < n → expr node r ≡ grow (expr node) (node r)
   unfolding expr exprWithin
   expr-step r w =
       grow-same (exprWithin node r) (expr node) (node r)
-      (parts-map (λ p q. within-same r (suc p) p (omega arith) (omega arith) (omega arith)) (node r) (file .earlier r w))
+      (parts-map (λ p q. within-same r (suc p) p (omega arith) (omega arith) (omega arith)) (node r) (earlier r w))
 
   -- a record matches its expression, its parts being below any m that is above the record
   matches : (m r : ℕ) → r ≤ m → r < n → Match (λ p d. (p < m) × (expr node p ≡ d)) (node r) (expr node r)
   matches m r l w =
       subst (λ (d : Expr). Match (λ p d. (p < m) × (expr node p ≡ d)) (node r) d) (sym (expr-step r w))
-      (grown (expr node) (node r) (parts-map (λ p q. omega arith) (node r) (file .earlier r w)))
+      (grown (expr node) (node r) (parts-map (λ p q. omega arith) (node r) (earlier r w)))
 
+-- ---- the records of a file, no two of which are equal
+
+module _ (n : ℕ) (node : ℕ → Node) (file : File n node) where
   one-below : (m i j : ℕ) → m ≤ n → i < m → j < m → expr node i ≡ expr node j → i ≡ j
   one-below zero i j l h g e = absurd (omega arith)
   one-below (suc m) i j l h g e =
+      let match = matches n node (file .earlier) m in
       file .distinct i j (omega arith) (omega arith)
       (same-match (λ p q d u v. one-below m p q (omega arith) (u .0) (v .0) (u .1 ∙ sym (v .1)))
-      (subst (Match (λ p d. (p < m) × (expr node p ≡ d)) (node i)) e (matches m i (omega arith) (omega arith)))
-      (matches m j (omega arith) (omega arith)))
+      (subst (Match (λ p d. (p < m) × (expr node p ≡ d)) (node i)) e (match i (omega arith) (omega arith)))
+      (match j (omega arith) (omega arith)))
 
   pub one-record : (i j : ℕ) → i < n → j < n → expr node i ≡ expr node j → i ≡ j
   one-record i j h g e = one-below n i j (omega arith) h g e

@@ -1,5 +1,4 @@
--- The walk that has come to a place, over any turns: what is left of it is the whole. `Walking` says so of the definition, `Going` of a loop that
--- writes the places into a lent table.
+-- `walked-says`, `says-one`: a file says what the walk finds, and nothing else. `Going`: the invariant of a loop that reads a file into a lent table.
 use Prim.Native.Nat.{ℕ, zero, suc, _+_, _≤_, _<_}
 use mathlib.Core.Path.{_≡_, refl, sym, _∙_}
 use mathlib.Core.List.{List, [], _∷_, _++_}
@@ -19,7 +18,7 @@ use Rattle.records.specs.Says.{Says, Says.accepted, Says.empty, Says.ref
 use Rattle.records.proofs.Says.{next-stands, stands-next, stands-onward}
 use Rattle.records.proofs.Lists.{front-more, behind-more}
 
--- ---- the walk
+-- ---- the walk that has come to a place: what is left of it is the whole
 
 -- at pos, behind the records at ps, with fuel left
 pub record Walking (turns : ℕ → List ℕ → Turn) (size pos : ℕ) (ps : List ℕ) : Type 0 where

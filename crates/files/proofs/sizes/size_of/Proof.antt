@@ -1,170 +1,130 @@
+-- `files::sizes::size_of` meets its contract, construct by construct: the parts that a record names are in the table.
 use borrow.Author.Needs.{needs}
 use Rattle.files.proofs.sizes.size_of.Statement.{statement}
 use Rattle.files.proofs.sizes.size_of.Tie as tie
-use Rattle.files.proofs.sizes.size_of.Reads as reads
-use Rattle.files.proofs.sizes.size_of.Lts as lts
-use Rattle.files.proofs.sizes.capped.Reads as capped-reads
-use Rattle.files.proofs.sizes.size_at.Reads as size-at-reads
 
--- src/sizes.rt:33:25
 enum-told : tie.Need-enum-told
 enum-told c = search needs
 
--- src/sizes.rt:34:27
 enum-told-2 : tie.Need-enum-told-2
 enum-told-2 c = search needs
 
--- src/sizes.rt:35:19
 enum-known-node : tie.Need-enum-known-node
 enum-known-node c = search needs
 
--- src/sizes.rt:35:36
 size-at-requires : tie.Need-size-at-requires
-size-at-requires c κs = ?
+size-at-requires c κs = rw (c .before .node .given .1) at (c .before .before .before .before .pre)
 
--- src/sizes.rt:35:32
 add-capped : tie.Need-add-capped
 add-capped c = search needs
 
--- src/sizes.rt:35:25
 capped-requires : tie.Need-capped-requires
 capped-requires c κs = search needs
 
--- src/sizes.rt:36:22
 enum-known-node-2 : tie.Need-enum-known-node-2
 enum-known-node-2 c = search needs
 
--- src/sizes.rt:36:42
 size-at-requires-2 : tie.Need-size-at-requires-2
-size-at-requires-2 c κs = ?
+size-at-requires-2 c κs = (rw (c .before .node2 .given .1) at (c .before .before .before .before .pre)) .0
 
--- src/sizes.rt:36:38
 add-capped-2 : tie.Need-add-capped-2
 add-capped-2 c = search needs
 
--- src/sizes.rt:36:62
 size-at-requires-3 : tie.Need-size-at-requires-3
-size-at-requires-3 c κs = ?
+size-at-requires-3 c κs = (rw (c .before .before .node2 .given .1) at (c .before .before .before .before .before .pre)) .1
 
--- src/sizes.rt:36:38
 add-capped-3 : tie.Need-add-capped-3
 add-capped-3 c = search needs
 
--- src/sizes.rt:36:31
 capped-requires-2 : tie.Need-capped-requires-2
 capped-requires-2 c κs = search needs
 
--- src/sizes.rt:37:20
 enum-known-node-3 : tie.Need-enum-known-node-3
 enum-known-node-3 c = search needs
 
--- src/sizes.rt:37:40
 size-at-requires-4 : tie.Need-size-at-requires-4
-size-at-requires-4 c κs = ?
+size-at-requires-4 c κs = (rw (c .before .node3 .given .1) at (c .before .before .before .before .pre)) .0
 
--- src/sizes.rt:37:36
 add-capped-4 : tie.Need-add-capped-4
 add-capped-4 c = search needs
 
--- src/sizes.rt:37:60
 size-at-requires-5 : tie.Need-size-at-requires-5
-size-at-requires-5 c κs = ?
+size-at-requires-5 c κs = (rw (c .before .before .node3 .given .1) at (c .before .before .before .before .before .pre)) .1
 
--- src/sizes.rt:37:36
 add-capped-5 : tie.Need-add-capped-5
 add-capped-5 c = search needs
 
--- src/sizes.rt:37:29
 capped-requires-3 : tie.Need-capped-requires-3
 capped-requires-3 c κs = search needs
 
--- src/sizes.rt:38:22
 enum-known-node-4 : tie.Need-enum-known-node-4
 enum-known-node-4 c = search needs
 
--- src/sizes.rt:38:39
 size-at-requires-6 : tie.Need-size-at-requires-6
-size-at-requires-6 c κs = ?
+size-at-requires-6 c κs = rw (c .before .node4 .given .1) at (c .before .before .before .before .pre)
 
--- src/sizes.rt:38:35
 add-capped-6 : tie.Need-add-capped-6
 add-capped-6 c = search needs
 
--- src/sizes.rt:38:28
 capped-requires-4 : tie.Need-capped-requires-4
 capped-requires-4 c κs = search needs
 
--- src/sizes.rt:39:22
 enum-known-node-5 : tie.Need-enum-known-node-5
 enum-known-node-5 c = search needs
 
--- src/sizes.rt:39:42
 size-at-requires-7 : tie.Need-size-at-requires-7
-size-at-requires-7 c κs = ?
+size-at-requires-7 c κs = rw (c .before .node5 .given .1) at (c .before .before .before .before .pre)
 
--- src/sizes.rt:39:38
 add-capped-7 : tie.Need-add-capped-7
 add-capped-7 c = search needs
 
--- src/sizes.rt:39:31
 capped-requires-5 : tie.Need-capped-requires-5
 capped-requires-5 c κs = search needs
 
--- src/sizes.rt:40:19
 enum-known-node-6 : tie.Need-enum-known-node-6
 enum-known-node-6 c = search needs
 
--- src/sizes.rt:40:39
 size-at-requires-8 : tie.Need-size-at-requires-8
-size-at-requires-8 c κs = ?
+size-at-requires-8 c κs = (rw (c .before .node6 .given .1) at (c .before .before .before .before .pre)) .0
 
--- src/sizes.rt:40:35
 add-capped-8 : tie.Need-add-capped-8
 add-capped-8 c = search needs
 
--- src/sizes.rt:40:59
 size-at-requires-9 : tie.Need-size-at-requires-9
-size-at-requires-9 c κs = ?
+size-at-requires-9 c κs = (rw (c .before .before .node6 .given .1) at (c .before .before .before .before .before .pre)) .1
 
--- src/sizes.rt:40:35
 add-capped-9 : tie.Need-add-capped-9
 add-capped-9 c = search needs
 
--- src/sizes.rt:40:28
 capped-requires-6 : tie.Need-capped-requires-6
 capped-requires-6 c κs = search needs
 
--- src/sizes.rt:28:1
 returns : tie.Need-returns
 returns c = search needs
 
--- src/sizes.rt:28:1
 returns-2 : tie.Need-returns-2
 returns-2 c = search needs
 
--- src/sizes.rt:28:1
 returns-3 : tie.Need-returns-3
-returns-3 c = ?
+returns-3 c = rw (c .capped .ensures, c .before .size-at .ensures .0, c .before .before .before .node .given .1)
 
--- src/sizes.rt:28:1
 returns-4 : tie.Need-returns-4
-returns-4 c = ?
+returns-4 c =
+    rw (c .capped2 .ensures, c .before .before .size-at2 .ensures .0, c .before .size-at3 .ensures .0, c .before .before .before .before .node2 .given .1)
 
--- src/sizes.rt:28:1
 returns-5 : tie.Need-returns-5
-returns-5 c = ?
+returns-5 c =
+    rw (c .capped3 .ensures, c .before .before .size-at4 .ensures .0, c .before .size-at5 .ensures .0, c .before .before .before .before .node3 .given .1)
 
--- src/sizes.rt:28:1
 returns-6 : tie.Need-returns-6
-returns-6 c = ?
+returns-6 c = rw (c .capped4 .ensures, c .before .size-at6 .ensures .0, c .before .before .before .node4 .given .1)
 
--- src/sizes.rt:28:1
 returns-7 : tie.Need-returns-7
-returns-7 c = ?
+returns-7 c = rw (c .capped5 .ensures, c .before .size-at7 .ensures .0, c .before .before .before .node5 .given .1)
 
--- src/sizes.rt:28:1
 returns-8 : tie.Need-returns-8
-returns-8 c = ?
+returns-8 c =
+    rw (c .capped6 .ensures, c .before .before .size-at8 .ensures .0, c .before .size-at9 .ensures .0, c .before .before .before .before .node6 .given .1)
 
 pub size-of-spec : {M : Type 1} → statement M
 size-of-spec =
