@@ -10,8 +10,8 @@ use Rattle.par.specs.declared.Status.the-variants.{Waiting, Success, Failure}
 use Rattle.par.specs.Status.{opposite, higher, lower, tried}
 use Rattle.par.specs.Expr.{join}
 use Rattle.par.specs.Step.{met}
-use Rattle.engine.specs.declared.moves.Route.{Route}
-use Rattle.engine.specs.declared.moves.Route.the-variants.{Silent, Event, One, Both, First, Second}
+use Rattle.engine.specs.declared.ways.Route.{Route}
+use Rattle.engine.specs.declared.ways.Route.the-variants.{Silent, Event, One, Both, First, Second}
 use Rattle.engine.specs.Nodes.{kindAt, firstAt, secondAt}
 
 -- ---- which way a node takes an event
@@ -143,9 +143,13 @@ module _ (F S : List ℕ) (a : ℕ) where
       taken (stepped f) S a (routeOf (kindAt F r) (getD P r 0) lo (firstAt F r) (secondAt F r) r)
       (kindAt F r) lo (firstAt F r) (secondAt F r) r P sent
 
+-- what the word w says, with the phases and the set beside it
+abbrev pub worded : ℕ → List ℕ → ℕ → Made
+worded w P sent = made (wordStatus w) (wordLines w) P sent
+
 -- what a step says of its word w, and of the phases and the set that it leaves
 abbrev pub Steps : List ℕ → List ℕ → ℕ → ℕ → ℕ → List ℕ → ℕ → ℕ → List ℕ → ℕ → Type 0
-Steps F S a lo r P sent w P' sent' = (f : ℕ) → r < f → made (wordStatus w) (wordLines w) P' sent' ≡ stepped F S a f lo r P sent
+Steps F S a lo r P sent w P' sent' = (f : ℕ) → r < f → worded w P' sent' ≡ stepped F S a f lo r P sent
 
 -- ---- one event on a whole rule
 
@@ -160,4 +164,4 @@ unfoldable pub advanced : List ℕ → List ℕ → ℕ → Bool → ℕ → Lis
 advanced F S root done a P sent = cond done (made Waiting 1 P sent) (cond (leb 64 root) (made Waiting 1 P sent) (stepped F S a (suc root) 0 root P sent))
 
 abbrev pub Advances : List ℕ → List ℕ → ℕ → Bool → ℕ → List ℕ → ℕ → ℕ → List ℕ → ℕ → Type 0
-Advances F S root done a P sent w P' sent' = made (wordStatus w) (wordLines w) P' sent' ≡ advanced F S root done a P sent
+Advances F S root done a P sent w P' sent' = worded w P' sent' ≡ advanced F S root done a P sent

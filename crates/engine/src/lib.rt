@@ -1,4 +1,5 @@
 // Running a rule: the whole feed at once, or event by event on a desk.
+pub mod ways; // ways.rt: which way a node takes an event, and what its status and phase become
 pub mod moves; // moves.rt: one event on the nodes of a rule
 pub mod writing; // writing.rt: a rule's file becomes its nodes
 pub mod feed; // feed.rt: the whole feed

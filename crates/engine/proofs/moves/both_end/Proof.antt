@@ -1,0 +1,53 @@
+-- `engine::moves::both_end` meets its contract.
+use borrow.Author.Needs.{needs}
+use Rattle.engine.proofs.moves.both_end.Statement.{statement}
+use Rattle.engine.proofs.moves.both_end.Tie as tie
+
+word-status-requires : tie.Need-word-status-requires
+word-status-requires c κs = search needs
+
+word-status-requires-2 : tie.Need-word-status-requires-2
+word-status-requires-2 c κs = search needs
+
+both-phase-requires : tie.Need-both-phase-requires
+both-phase-requires c κs = search needs
+
+element-write-phases : tie.Need-element-write-phases
+element-write-phases c = search needs
+
+both-status-requires : tie.Need-both-status-requires
+both-status-requires c κs = search needs
+
+add-close-word : tie.Need-add-close-word
+add-close-word c = search needs
+
+add-close-word-2 : tie.Need-add-close-word-2
+add-close-word-2 c = search needs
+
+close-word-requires : tie.Need-close-word-requires
+close-word-requires c κs = search needs
+
+returns : tie.Need-returns
+returns c = λ n.
+    rw (
+      c .close-word .ensures .0,
+      c .close-word .ensures .1,
+      c .before .both-status .ensures,
+      c .before .before .both-phase .ensures,
+      c .before .before .before .word-status2 .ensures,
+      c .before .before .before .before .word-status .ensures,
+    )
+
+pub both-end-spec : {M : Type 1} → statement M
+both-end-spec =
+    tie.close
+    (tie.spec
+    word-status-requires
+    word-status-requires-2
+    both-phase-requires
+    element-write-phases
+    both-status-requires
+    add-close-word
+    add-close-word-2
+    close-word-requires
+    returns)
