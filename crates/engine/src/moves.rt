@@ -67,7 +67,7 @@ fn close_word(s: Status, lines: u64) -> u64
     par::status_byte(s) as u64 + 4 * lines
 }
 
-fn word_status(w: u64) -> Status
+pub fn word_status(w: u64) -> Status
     ensures { λ s. ⌜ s ≡ wordStatus w ⌝ }
 {
     let b = w % 4;
