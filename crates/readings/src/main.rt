@@ -1,30 +1,31 @@
 // Reads stored files and prints what each reading found: for each case an expression file, then a pair file over its records.
 // A stored file is four bytes of length, little-endian, and then its bytes.
-ghost use Prim.Native.Nat.{_+_, _≤_, _<_};
+ghost use Prim.Native.Nat.{_+_, _≤_, _<_, min};
 ghost use lib.ListN.{length};
 
 // Where a stored file begins and ends in the input.
-struct Stored {
+struct Extent {
     start: usize,
     end: usize,
 }
 
 // The file stored at a place; cut short where the input ends.
-fn stored(input: &[u8], at: usize) -> Stored
+fn extent_at(input: &[u8], at: usize) -> Extent
     requires { ⌜ at ≤ length (now input) ⌝ }
-    ensures { λ r. ⌜ (r .start ≤ r .end) × (r .end ≤ length (now (input .entry))) × (at ≤ r .start) ⌝ }
-    ensures { λ r. ⌜ at < length (now (input .entry)) → at < r .start ⌝ }
+    ensures { λ r. ⌜ (min (at + 1) (length (now (input .entry))) ≤ r .start) × (r .start ≤ r .end) × (r .end ≤ length (now (input .entry))) ⌝ }
 {
     let n = input.len();
     if n - at < 4 {
-        return Stored { start: n, end: n };
+        return Extent { start: n, end: n };
     }
     let start = at + 4;
-    let size = records::part_at(input, at, 0) + 65536 * records::part_at(input, at, 2);
+    let low = records::word_at(input, at, 0) as usize;
+    let high = records::word_at(input, at, 2) as usize;
+    let size = low + 65536 * high;
     if n - start < size {
-        return Stored { start, end: n };
+        return Extent { start, end: n };
     }
-    Stored {
+    Extent {
         start,
         end: start + size,
     }
@@ -61,10 +62,10 @@ fn case_at(input: &[u8], at: usize) -> usize
     requires { ⌜ at < length (now input) ⌝ }
     ensures { λ r. ⌜ (at < r) × (r ≤ length (now (input .entry))) ⌝ }
 {
-    let a = stored(input, at);
+    let a = extent_at(input, at);
     let start = a.start;
     let end = a.end;
-    let b = stored(input, end);
+    let b = extent_at(input, end);
     let from = b.start;
     let to = b.end;
     print_case(&input[start..end], &input[from..to]);
