@@ -6,7 +6,6 @@ use Rattle.par.specs.declared.Status.the-variants.{Waiting, Success, Failure}
 use Rattle.par.specs.Status.{opposite, higher, lower, tried}
 use Rattle.par.specs.Expr.{join}
 use Rattle.par.specs.Step.{pushed}
-use Rattle.records.specs.declared.Key.{Key}
 use Rattle.alike.specs.declared.plans.Part.{Part}
 use Rattle.alike.specs.declared.plans.Rest.{Rest}
 use Rattle.alike.specs.declared.plans.Rest.the-variants.{Still, Old, New}

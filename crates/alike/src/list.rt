@@ -52,7 +52,8 @@ fn plan_at(
     r: usize,
 ) -> Plan
     requires { ⌜ Held (now kinds) (now xs) (now ys) count × Level count (now notices) (now statuses) (now remains) × (r < count) ⌝ }
-    ensures { λ p. ⌜ p ≡ planAt (now (kinds .entry)) (now (xs .entry)) (now (ys .entry)) event (now (notices .entry)) (now (statuses .entry)) (now (remains .entry)) r ⌝ }
+    ensures { λ p. ⌜ p ≡ planAt (now (kinds .entry)) (now (xs .entry)) (now (ys .entry)) event
+        (now (notices .entry)) (now (statuses .entry)) (now (remains .entry)) r ⌝ }
 {
     let kind = kinds[r];
     let x = xs[r];
@@ -125,8 +126,11 @@ pub fn fill(
     statuses: &mut [u8],
     remains: &mut [usize],
 )
-    requires { ⌜ Held (now kinds) (now xs) (now ys) count × (count ≤ length (now ix)) × Sorted (keyAt (now kinds) (now xs) (now ys)) count (now ix) count × Level count (now notices) (now statuses) (now remains) ⌝ }
-    ensures { λ _. ⌜ Filled (expressions (now (kinds .entry)) (now (xs .entry)) (now (ys .entry))) count event (now (notices .exit)) (now (statuses .exit)) (now (remains .exit)) count × Level count (now (notices .exit)) (now (statuses .exit)) (now (remains .exit)) ⌝ }
+    requires { ⌜ Held (now kinds) (now xs) (now ys) count × (count ≤ length (now ix)) × Sorted (keyAt (now kinds) (now xs) (now ys)) count (now ix) count
+        × Level count (now notices) (now statuses) (now remains) ⌝ }
+    ensures { λ _. ⌜ Filled (expressions (now (kinds .entry)) (now (xs .entry)) (now (ys .entry))) count event
+        (now (notices .exit)) (now (statuses .exit)) (now (remains .exit)) count
+        × Level count (now (notices .exit)) (now (statuses .exit)) (now (remains .exit)) ⌝ }
 {
     let still = look_up(
         kinds,

@@ -147,9 +147,11 @@ pub fn plan_either(p: Part, q: Part) -> Plan
     ensures { λ r. ⌜ r ≡ planEither p q ⌝ }
 {
     let rest = either_rest(p, q);
+    let s = p.status;
+    let t = q.status;
     Plan {
         notices: p.notices | q.notices,
-        status: par::either_status(p.status, q.status),
+        status: par::either_status(s, t),
         rest,
     }
 }
@@ -174,9 +176,11 @@ pub fn plan_try(p: Part, q: Part) -> Plan
     ensures { λ r. ⌜ r ≡ planTry p q ⌝ }
 {
     let rest = try_rest(p, q);
+    let s = p.status;
+    let t = q.status;
     Plan {
         notices: p.notices | q.notices,
-        status: par::try_status(p.status, q.status),
+        status: par::try_status(s, t),
         rest,
     }
 }

@@ -34,7 +34,7 @@ decimalLength n = cond (ltb n 10) 1 2
 
 -- a number below 100, and a line feed
 abbrev pub decimal : ℕ → List ℕ
-decimal n = cond (ltb n 10) (48 + n ∷ 10 ∷ []) (48 + n / 10 ∷ 48 + n % 10 ∷ 10 ∷ [])
+decimal n = cond (ltb n 10) ((48 + n) ∷ 10 ∷ []) ((48 + n / 10) ∷ (48 + n % 10) ∷ 10 ∷ [])
 
 -- ---- lines
 
