@@ -1,6 +1,16 @@
--- Right has the main theorem, Safe that no test for misfits fires; the others prove them and the code, in this order.
+-- Promises restates the main theorems. Right: one event is what the figures say. Safe, Untested: no test for misfits fires. RuleNodes: the nodes of
+-- a file mean its rule. Runs, Desks, Sitting, Histories, DeskRuns: the whole feed and the desk. Examples: P1 to P4. The others prove these and the code.
+pub mod Promises
 pub mod Right
 pub mod Safe
+pub mod Untested
+pub mod RuleNodes
+pub mod Runs
+pub mod Desks
+pub mod Sitting
+pub mod Histories
+pub mod DeskRuns
+pub mod Examples
 pub mod Tests
 pub mod Words
 pub mod Phases
@@ -10,3 +20,10 @@ pub mod Ends
 pub mod Stepping
 pub mod Frame
 pub mod Links
+pub mod Written
+pub mod Rooms
+pub mod Advancing
+pub mod Buffers
+pub mod Feeding
+pub mod Standing
+pub mod Feeds

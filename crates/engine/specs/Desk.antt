@@ -1,10 +1,9 @@
 -- The desk, as the code moves it: on any bytes whatever.
 use Prim.Native.Nat.{ℕ}
-use mathlib.Core.Bool.{Bool, true, false, cond}
+use mathlib.Core.Bool.{true, false, cond}
 use mathlib.Core.List.{List, replicate}
 use lib.Dec.{eqb}
 use Rattle.par.specs.declared.Status.the-variants.{Waiting}
-use Rattle.par.specs.declared.Answer.{Answer}
 use Rattle.files.specs.Rule.{ruleNumber}
 use Rattle.engine.specs.declared.Desk.{Desk}
 use Rattle.engine.specs.declared.Reply.{Reply}

@@ -1,7 +1,7 @@
 -- The answers to a whole feed, as the bytes of their records, and what running leaves in the buffer.
 use Prim.Native.Nat.{ℕ, _+_, _*_, _/_, _%_}
 use mathlib.Core.Path.{_≡_}
-use mathlib.Core.Bool.{Bool, true, false, cond}
+use mathlib.Core.Bool.{Bool, false, cond}
 use mathlib.Core.List.{List, [], _∷_, _++_, replicate}
 use lib.ListN.{length}
 use lib.Seq.{sets}
@@ -11,7 +11,7 @@ use Rattle.par.specs.Status.{statusByte}
 use Rattle.par.specs.Feed.{answers}
 use Rattle.files.specs.Rule.{rule, ruleNumber}
 use Rattle.engine.specs.declared.feed.Ran.{Ran}
-use Rattle.engine.specs.Moves.{Made, advanced, over}
+use Rattle.engine.specs.Moves.{advanced, over}
 
 -- length 7, kind 32, the notice set, the status byte
 abbrev pub answerRecord : ℕ → ℕ → List ℕ

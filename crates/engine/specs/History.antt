@@ -3,12 +3,14 @@ use Prim.Native.Nat.{ℕ}
 use mathlib.Core.Bool.{cond}
 use mathlib.Core.List.{List, [], _∷_, _++_}
 use lib.Dec.{eqb, ltb}
+use Rattle.par.specs.Status.{statusByte}
 use Rattle.par.specs.Expr.{Expr, size}
-use Rattle.par.specs.Feed.{answer, after}
+use Rattle.par.specs.Feed.{answer, after, Bytes}
 use Rattle.files.specs.Rule.{rule, ruleNumber}
 use Rattle.engine.specs.declared.Desk.{Desk}
 use Rattle.engine.specs.declared.Reply.{Reply}
-use Rattle.engine.specs.Desk.{emptyDesk, openedOf, steppedOf, refusal}
+use Rattle.engine.specs.Feed.{answerRecord}
+use Rattle.engine.specs.Desk.{openedOf, steppedOf, refusal}
 
 -- a call on a desk, and what comes back of it
 pub data Call : Type 0 where
@@ -18,6 +20,12 @@ pub data Call : Type 0 where
 pub data Back : Type 0 where
   numbered : ℕ → Back
   replied : Reply → Back
+
+-- every rule file is bytes
+abbrev pub BytesIn : List Call → Type 0
+BytesIn [] = Unit {0}
+BytesIn (opening s ∷ calls) = Bytes s × BytesIn calls
+BytesIn (stepping a ∷ calls) = BytesIn calls
 
 -- ---- the desk, as the code moves it
 
@@ -36,6 +44,12 @@ desksAfter d (c ∷ calls) = desksAfter (deskAfter d c) calls
 unfoldable pub desksBack : Desk → List Call → List Back
 desksBack d [] = []
 desksBack d (c ∷ calls) = deskBack d c ∷ desksBack (deskAfter d c) calls
+
+-- the records of the answers among what came back, as a whole feed writes them
+unfoldable pub backBytes : List Back → List ℕ
+backBytes [] = []
+backBytes (numbered n ∷ backs) = backBytes backs
+backBytes (replied r ∷ backs) = answerRecord (r .answer .notices) (statusByte (r .answer .status)) ++ backBytes backs
 
 -- ---- the book
 

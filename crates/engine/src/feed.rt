@@ -4,9 +4,8 @@ ghost use Prim.Native.Nat.{_+_, _*_, _≤_, _<_};
 ghost use lib.ListN.{length};
 ghost use lib.Dec.{leb};
 ghost use lib.Seq.{sets as setsAt};
-ghost use Rattle.par.specs.Status.{statusByte};
 ghost use Rattle.engine.specs.Moves.{Advances};
-ghost use Rattle.engine.specs.Feed.{answerRecord, fedBytes, ranNumber, Fed};
+ghost use Rattle.engine.specs.Feed.{answerRecord, fedBytes, Fed};
 use par::Notices;
 
 // One event on a rule whose nodes stand from 0 up to `root`: as `moves::step`, and "waiting, none" in one line where the rule is done.
@@ -20,7 +19,8 @@ pub fn advance<'a>(
     event: u8,
 ) -> u64
     requires { ⌜ (length (now fixed) ≡ 64) × (length (now sets) ≡ 64) × (length (now phases) ≡ 64) ⌝ }
-    ensures { λ w. ⌜ Advances (now (fixed .entry)) (now (sets .entry)) root done event (now (phases .entry)) (now (sent .entry)) w (now (phases .exit)) (now (sent .exit)) ⌝ }
+    ensures { λ w. ⌜ Advances (now (fixed .entry)) (now (sets .entry)) root done event (now (phases .entry)) (now (sent .entry)) w
+        (now (phases .exit)) (now (sent .exit)) ⌝ }
 {
     if done {
         return 4;
@@ -55,7 +55,9 @@ fn feed<'a>(
     place: usize,
 ) -> usize
     requires { ⌜ ((length (now fixed) ≡ 64) × (length (now sets) ≡ 64)) × (place + 7 * length (now events) ≤ length (now answers)) ⌝ }
-    ensures { λ n. ⌜ (n ≡ 7 * length (now (events .entry))) × (now (answers .exit) ≡ setsAt (now (answers .entry)) place (fedBytes (now (fixed .entry)) (now (sets .entry)) root (now (events .entry)))) ⌝ }
+    ensures { λ n. ⌜ (n ≡ 7 * length (now (events .entry)))
+        × (now (answers .exit)
+        ≡ setsAt (now (answers .entry)) place (fedBytes (now (fixed .entry)) (now (sets .entry)) root (now (events .entry)))) ⌝ }
 {
     let mut phases = [0u8; 64];
     let mut done = false;
@@ -64,7 +66,8 @@ fn feed<'a>(
     while i < events.len() {
         let mut sent = 0;
         let w = advance(fixed, sets, &mut phases, &mut sent, root, done, events[i]);
-        put_record(&mut answers[at..], sent, (w % 4) as u8);
+        let status = par::status_byte(crate::moves::word_status(w));
+        put_record(&mut answers[at..], sent, status);
         if w % 4 != 0 {
             done = true;
         }

@@ -1,6 +1,6 @@
 // A rule's file becomes the nodes that the engine runs: shared parts written out, parts before their whole.
 ghost use mathlib.Core.Path.{_≡_};
-ghost use Prim.Native.Nat.{_<_};
+ghost use Prim.Native.Nat.{_-_, _≤_, _<_};
 ghost use lib.ListN.{length};
 ghost use Rattle.files.specs.Rule.{nodeIn};
 ghost use Rattle.engine.specs.WrittenOut.{wrote, put, Room, Writes, nodesOf};
@@ -25,6 +25,28 @@ fn put_node(
     count + 1
 }
 
+// Writes the node of a construct with one part, whose root is the last of the first n nodes; how many there are then.
+fn put_one(
+    fixed: &mut [u32; 64],
+    sets: &mut [Notices; 64],
+    n: usize,
+    kind: u32,
+    set: Notices,
+) -> usize
+    requires { ⌜ ((1 ≤ n) × (n < 64) × (length (now fixed) ≡ 64) × (length (now sets) ≡ 64)) × (kind < 256) ⌝ }
+    ensures { λ k. ⌜ wrote (now (fixed .exit)) (now (sets .exit)) k ≡ put (wrote (now (fixed .entry)) (now (sets .entry)) n) kind (n - 1) 0 set ⌝ }
+{
+    put_node(fixed, sets, n, kind, n - 1, 0, set)
+}
+
+// Writes the node of a construct with two parts, whose roots are the last of the first n nodes and of the first m; how many there are then.
+fn put_two(fixed: &mut [u32; 64], sets: &mut [Notices; 64], n: usize, m: usize, kind: u32) -> usize
+    requires { ⌜ ((1 ≤ n) × (n ≤ m) × (m < 64) × (length (now fixed) ≡ 64) × (length (now sets) ≡ 64)) × (kind < 256) ⌝ }
+    ensures { λ k. ⌜ wrote (now (fixed .exit)) (now (sets .exit)) k ≡ put (wrote (now (fixed .entry)) (now (sets .entry)) m) kind (n - 1) (m - 1) 0 ⌝ }
+{
+    put_node(fixed, sets, m, kind, n - 1, m - 1, 0)
+}
+
 // Writes the expression of record r out behind the first `count` nodes; how many nodes there are then. The last is its root.
 fn write_out(
     file: &[u8],
@@ -35,7 +57,8 @@ fn write_out(
     count: usize,
 ) -> usize
     requires { ⌜ Room (nodeIn (now file) (now at)) (length (now at)) r count (now fixed) (now sets) ⌝ }
-    ensures { λ n. ⌜ Writes (nodeIn (now (file .entry)) (now (at .entry))) r (wrote (now (fixed .entry)) (now (sets .entry)) count) (wrote (now (fixed .exit)) (now (sets .exit)) n) ⌝ }
+    ensures { λ n. ⌜ Writes (nodeIn (now (file .entry)) (now (at .entry))) r (wrote (now (fixed .entry)) (now (sets .entry)) count)
+        (wrote (now (fixed .exit)) (now (sets .exit)) n) ⌝ }
 {
     let p = at[r];
     match records::node_at(file, p) {
@@ -43,30 +66,30 @@ fn write_out(
         Node::Event(e) => put_node(fixed, sets, count, 2, e as usize, 0, 0),
         Node::Not(x) => {
             let n = write_out(file, at, x, fixed, sets, count);
-            put_node(fixed, sets, n, 3, n - 1, 0, 0)
+            put_one(fixed, sets, n, 3, 0)
         }
         Node::Either(x, y) => {
             let n = write_out(file, at, x, fixed, sets, count);
             let m = write_out(file, at, y, fixed, sets, n);
-            put_node(fixed, sets, m, 4, n - 1, m - 1, 0)
+            put_two(fixed, sets, n, m, 4)
         }
         Node::Then(x, y) => {
             let n = write_out(file, at, x, fixed, sets, count);
             let m = write_out(file, at, y, fixed, sets, n);
-            put_node(fixed, sets, m, 5, n - 1, m - 1, 0)
+            put_two(fixed, sets, n, m, 5)
         }
         Node::Repeat(x) => {
             let n = write_out(file, at, x, fixed, sets, count);
-            put_node(fixed, sets, n, 6, n - 1, 0, 0)
+            put_one(fixed, sets, n, 6, 0)
         }
         Node::Notify(x, set) => {
             let n = write_out(file, at, x, fixed, sets, count);
-            put_node(fixed, sets, n, 7, n - 1, 0, set)
+            put_one(fixed, sets, n, 7, set)
         }
         Node::Try(x, y) => {
             let n = write_out(file, at, x, fixed, sets, count);
             let m = write_out(file, at, y, fixed, sets, n);
-            put_node(fixed, sets, m, 8, n - 1, m - 1, 0)
+            put_two(fixed, sets, n, m, 8)
         }
     }
 }

@@ -1,0 +1,152 @@
+-- What this crate promises beside its contracts, each theorem whole, with the file that proves it cited. Assumes nothing: there is no axiom in the crate.
+-- Bytes are numbers below 256; events may be any numbers.
+use Prim.Native.Nat.{ℕ, suc, _+_, _*_, _≤_, _<_}
+use mathlib.Core.Path.{_≡_}
+use mathlib.Core.Bool.{true, false}
+use mathlib.Core.Logic.{_≢_}
+use mathlib.Core.List.{List, [], _∷_, _++_, map, List·Memᴰ}
+use lib.ListN.{length, take, drop, replicate}
+use lib.Seq.{sets}
+use Rattle.par.specs.Expr.{Expr, size}
+use Rattle.par.specs.Feed.{answer, answers, after, Bytes}
+use Rattle.par.proofs.Silence.{nothing}
+use Rattle.files.specs.Rule.{rule, ruleNumber}
+use Rattle.files.proofs.Swap.{swapBytes}
+use Rattle.engine.specs.declared.Desk.{Desk}
+use Rattle.engine.specs.declared.Reply.{Reply}
+use Rattle.engine.specs.declared.feed.Ran.{Ran}
+use Rattle.engine.specs.Moves.{stepped, advanced}
+use Rattle.engine.specs.Means.{Own, Means}
+use Rattle.engine.specs.WrittenOut.{nodesOf}
+use Rattle.engine.specs.Feed.{answerBytes, fedBytes, Fed}
+use Rattle.engine.specs.Desk.{emptyDesk, freshDesk, openedOf, refusal, steppedOf}
+use Rattle.engine.specs.History.{Call, Call.stepping, Back.replied, BytesIn, Book.closed, stepNumber, desksBack, backBytes, booksBack}
+use Rattle.engine.proofs.Right.{Good}
+use Rattle.engine.proofs.Right
+use Rattle.engine.proofs.RuleNodes
+use Rattle.engine.proofs.Runs
+use Rattle.engine.proofs.Desks
+use Rattle.engine.proofs.Untested.{plain}
+use Rattle.engine.proofs.Sitting.{Sitting, byte-at}
+use Rattle.engine.proofs.Sitting
+use Rattle.engine.proofs.Histories
+use Rattle.engine.proofs.DeskRuns.{replies}
+use Rattle.engine.proofs.DeskRuns
+use Rattle.engine.proofs.Examples.{o, a, c, w, oacoawc, swapAnswers, linesOn, supplierBytes, tryBytes}
+use Rattle.engine.proofs.Examples
+
+-- ---- One event is what the figures say: on nodes that mean e it gives e's status, lines and notices, and leaves nodes that mean what remains of e
+
+pub right : (F S : List ℕ) (a : ℕ) {P : List ℕ} {lo r : ℕ} {e : Expr} → Means F S P lo r e → (f : ℕ) → r < f → r < 64 → length P ≡ 64 → (sent : ℕ)
+    → Good F S P a lo r e sent (stepped F S a f lo r P sent)
+right = Right.right
+
+-- ---- The nodes of a rule file that is accepted mean its rule
+
+pub nodes-own : (s : List ℕ) → Bytes s → ruleNumber s ≡ 0 → Own (nodesOf s .fixed) (nodesOf s .sets) 0 (nodesOf s .root) (rule s)
+nodes-own s b = RuleNodes.nodes-own s (byte-at s b)
+
+-- ---- Running a whole feed writes what the figures answer, from the place on, and nothing else
+
+pub nodes-fed : (s : List ℕ) → Bytes s → ruleNumber s ≡ 0 → (events : List ℕ)
+    → fedBytes (nodesOf s .fixed) (nodesOf s .sets) (nodesOf s .root) events ≡ answerBytes (answers (rule s) events)
+nodes-fed s b = Runs.nodes-fed s (byte-at s b)
+
+pub run-writes : (s events : List ℕ) (place : ℕ) (buffer : List ℕ) {r : Ran} {buffer' : List ℕ} → Fed s events place buffer r buffer' → r .number ≡ 0
+    → (r .written ≡ 7 * length events)
+    × (buffer' ≡ take place buffer ++ answerBytes (answers (rule s) events) ++ drop (place + 7 * length events) buffer)
+run-writes = Runs.ran-writes
+
+pub run-refused : (s events : List ℕ) (place : ℕ) (buffer : List ℕ) {r : Ran} {buffer' : List ℕ} → Fed s events place buffer r buffer' → r .number ≢ 0
+    → (r .written ≡ 0) × (buffer' ≡ buffer)
+run-refused = Runs.ran-refused
+
+-- `run`'s contract is met by one outcome; those of the desk are equations.
+pub run-one : {s events : List ℕ} {place : ℕ} {buffer : List ℕ} {r r' : Ran} {b b' : List ℕ} → Fed s events place buffer r b
+    → Fed s events place buffer r' b' → (r ≡ r') × (b ≡ b')
+run-one = Runs.fed-one
+
+-- ---- A desk, made empty and changed by any openings and steps, replies what the figures give for the rule that was accepted last, fresh, after the
+-- events since; refused openings and steps on a closed desk leave no trace
+
+pub history : (calls : List Call) → BytesIn calls → desksBack emptyDesk calls ≡ booksBack closed calls
+history = Histories.history
+
+pub refused-opening : (d : Desk) (s : List ℕ) → ruleNumber s ≢ 0 → openedOf d s .desk ≡ d
+refused-opening = Desks.refused-opening
+
+pub closed-step : (d : Desk) (a : ℕ) → d .is_open ≡ false → steppedOf d a ≡ record { desk = d; reply = refusal 15 }
+closed-step = Desks.closed-step
+
+-- A finished rule stays open and silent.
+pub finished-step : (d : Desk) (a : ℕ) → d .is_open ≡ true → d .done ≡ true
+    → steppedOf d a ≡ record { desk = d; reply = record { number = 0; answer = nothing } }
+finished-step = Desks.finished-step
+
+-- ---- One rule on a desk, event by event
+
+pub fresh-sits : (s : List ℕ) → Bytes s → ruleNumber s ≡ 0 → Sitting (freshDesk s) (rule s) []
+fresh-sits = Sitting.fresh-sits
+
+pub step-sits : (d : Desk) (x : Expr) (feed : List ℕ) → Sitting d x feed → (a : ℕ) → Sitting (steppedOf d a .desk) x (feed ++ (a ∷ []))
+step-sits = Sitting.step-sits
+
+pub step-answers : (d : Desk) (x : Expr) (feed : List ℕ) → Sitting d x feed → (a : ℕ)
+    → steppedOf d a .reply ≡ record { number = 0; answer = answer (after x feed) a }
+step-answers = Sitting.step-answers
+
+-- The tests for nodes out of place, which keep a step safe on any desk whatever, change nothing where a rule sits.
+pub sitting-untested : (d : Desk) (x : Expr) (feed : List ℕ) → Sitting d x feed → d .done ≡ false → (a sent : ℕ)
+    → advanced (d .fixed) (d .sets) (d .root) (d .done) a (d .phases) sent ≡ plain (d .fixed) (d .sets) a (suc (d .root)) 0 (d .root) (d .phases) sent
+sitting-untested = Sitting.sitting-untested
+
+-- ---- A desk that is fed event by event and a whole feed that is run give the same
+
+pub desk-is-run : (s events : List ℕ) → Bytes s → (d : Desk) → ruleNumber s ≡ 0
+    → desksBack (openedOf d s .desk) (map stepping events) ≡ replies (answers (rule s) events)
+desk-is-run = DeskRuns.desk-is-run
+
+pub run-is-desk : (s events : List ℕ) → Bytes s → (d : Desk) {place : ℕ} {buffer buffer' : List ℕ} {r : Ran} → Fed s events place buffer r buffer'
+    → r .number ≡ 0 → buffer' ≡ sets buffer place (backBytes (desksBack (openedOf d s .desk) (map stepping events)))
+run-is-desk = DeskRuns.run-is-desk
+
+-- ---- Number 16 is never given
+
+pub no-16 : (x : Expr) (feed : List ℕ) (a : ℕ) → size x ≤ 64 → stepNumber x feed a ≡ 0
+no-16 = Histories.no-16
+
+pub number-16-never : (calls : List Call) (r : Reply) → List·Memᴰ (replied r) (booksBack closed calls) → r .number ≢ 16
+number-16-never = Histories.number-16-never
+
+-- ---- No step grows dear: at most as many lines as the rule has nodes, and on any desk whatever at most 64
+
+pub step-lines : (d : Desk) (x : Expr) (feed : List ℕ) → Sitting d x feed → (a : ℕ) → steppedOf d a .reply .answer .lines ≤ size x
+step-lines = Sitting.step-lines
+
+pub reply-lines : (d : Desk) (a : ℕ) → steppedOf d a .reply .answer .lines ≤ 64
+reply-lines = Desks.reply-lines
+
+-- ---- P1 to P4 of document 01, from the bytes of the rules' files
+
+pub P1 : answerBytes (answers (rule swapBytes) oacoawc) ≡ swapAnswers
+P1 = Examples.P1-figures
+
+pub P1-engine : fedBytes (nodesOf swapBytes .fixed) (nodesOf swapBytes .sets) (nodesOf swapBytes .root) oacoawc ≡ swapAnswers
+P1-engine = Examples.P1-engine
+
+pub P1-run : (r : Ran) (b : List ℕ) → Fed swapBytes oacoawc 1 (replicate 51 9) r b
+    → (r ≡ record { number = 0; written = 49 }) × (b ≡ 9 ∷ (swapAnswers ++ (9 ∷ [])))
+P1-run = Examples.P1-run
+
+pub P2 : linesOn (freshDesk swapBytes) (o ∷ a ∷ c ∷ []) ≡ 3 ∷ 6 ∷ 5 ∷ []
+P2 = Examples.P2
+
+pub P3 : answerBytes (answers (rule supplierBytes) (o ∷ a ∷ w ∷ []))
+    ≡ 7 ∷ 0 ∷ 32 ∷ 0 ∷ 0 ∷ 0 ∷ 0
+    ∷ 7 ∷ 0 ∷ 32 ∷ 0 ∷ 1 ∷ 0 ∷ 0
+    ∷ 7 ∷ 0 ∷ 32 ∷ 0 ∷ 0 ∷ 0 ∷ 2
+    ∷ []
+P3 = Examples.P3
+
+pub P4 : answerBytes (answers (rule tryBytes) (a ∷ [])) ≡ 7 ∷ 0 ∷ 32 ∷ 0 ∷ 0 ∷ 0 ∷ 1 ∷ []
+P4 = Examples.P4
