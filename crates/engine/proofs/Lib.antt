@@ -23,6 +23,7 @@ pub mod Links
 pub mod Written
 pub mod Rooms
 pub mod Advancing
+pub mod Settling
 pub mod Buffers
 pub mod Feeding
 pub mod Standing

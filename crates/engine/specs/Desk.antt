@@ -8,6 +8,7 @@ use Rattle.files.specs.Rule.{ruleNumber}
 use Rattle.engine.specs.declared.Desk.{Desk}
 use Rattle.engine.specs.declared.Reply.{Reply}
 use Rattle.engine.specs.declared.Moved.{Moved}
+use Rattle.engine.specs.declared.Progress.{Progress}
 use Rattle.engine.specs.declared.Begun.{Begun}
 use Rattle.engine.specs.Moves.{Made, advanced, over}
 use Rattle.engine.specs.WrittenOut.{nodesOf}
@@ -48,3 +49,7 @@ unfoldable pub steppedOf : Desk → ℕ → Moved
 steppedOf d a =
     cond (d .is_open) (movedTo d (advanced (d .fixed) (d .sets) (d .root) (d .done) a (d .phases) 0))
     (record { desk = d; reply = refusal 15 })
+
+-- what an event alters: a step leaves the other fields of a desk
+abbrev pub progressOf : Moved → Progress
+progressOf m = record { phases = m .desk .phases; done = m .desk .done; reply = m .reply }

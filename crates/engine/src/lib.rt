@@ -7,7 +7,7 @@ pub mod feed; // feed.rt: the whole feed
 pub use feed::Ran;
 pub use feed::run;
 ghost use mathlib.Core.Path.{_≡_};
-ghost use Rattle.engine.specs.Desk.{emptyDesk, steppedOf, openedOf};
+ghost use Rattle.engine.specs.Desk.{emptyDesk, steppedOf, progressOf, openedOf};
 use par::Answer;
 use par::Notices;
 use par::Status;
@@ -31,6 +31,13 @@ pub struct Reply {
 
 pub struct Moved {
     pub desk: Desk,
+    pub reply: Reply,
+}
+
+// What an event alters on a desk, and its reply: a desk's other fields stay, so these alone are stored.
+pub struct Progress {
+    pub phases: [u8; 64],
+    pub done: bool,
     pub reply: Reply,
 }
 
@@ -78,12 +85,13 @@ pub fn opened(d: Desk, rule: &[u8]) -> Begun
 }
 
 // The work of `step`, by value.
-pub fn stepped(d: Desk, event: u8) -> Moved
-    ensures { λ r. ⌜ r ≡ steppedOf d event ⌝ }
+pub fn progressed(d: Desk, event: u8) -> Progress
+    ensures { λ r. ⌜ r ≡ progressOf (steppedOf d event) ⌝ }
 {
+    let mut phases = d.phases;
+    let mut done = d.done;
     let is = d.is_open;
     if is {
-        let mut phases = d.phases;
         let mut sent = 0;
         let w = feed::advance(
             &d.fixed,
@@ -91,17 +99,16 @@ pub fn stepped(d: Desk, event: u8) -> Moved
             &mut phases,
             &mut sent,
             d.root,
-            d.done,
+            done,
             event,
         );
         let status = moves::word_status(w);
-        let mut next = d;
-        next.phases = phases;
         if w % 4 != 0 {
-            next.done = true;
+            done = true;
         }
-        return Moved {
-            desk: next,
+        return Progress {
+            phases,
+            done,
             reply: Reply {
                 number: 0,
                 answer: Answer {
@@ -112,8 +119,9 @@ pub fn stepped(d: Desk, event: u8) -> Moved
             },
         };
     }
-    Moved {
-        desk: d,
+    Progress {
+        phases,
+        done,
         reply: Reply {
             number: 15,
             answer: Answer {
@@ -123,6 +131,19 @@ pub fn stepped(d: Desk, event: u8) -> Moved
             },
         },
     }
+}
+
+// A whole step by value, for whoever holds the desk itself.
+pub fn stepped(d: Desk, event: u8) -> Moved
+    ensures { λ r. ⌜ r ≡ steppedOf d event ⌝ }
+{
+    let p = progressed(d, event);
+    let phases = p.phases;
+    let reply = p.reply;
+    let mut next = d;
+    next.phases = phases;
+    next.done = p.done;
+    Moved { desk: next, reply }
 }
 
 // Opens a rule on a desk, fresh, also where one is open. The number is that of the file, then 8; refused, the desk is as it was.
@@ -138,7 +159,8 @@ pub fn open(d: &mut Desk, rule: &[u8]) -> u8
 pub fn step(d: &mut Desk, event: u8) -> Reply
     ensures { λ r. ⌜ (r ≡ steppedOf (now (d .entry)) event .reply) × (now (d .exit) ≡ steppedOf (now (d .entry)) event .desk) ⌝ }
 {
-    let s = stepped(*d, event);
-    *d = s.desk;
+    let s = progressed(*d, event);
+    d.phases = s.phases;
+    d.done = s.done;
     s.reply
 }

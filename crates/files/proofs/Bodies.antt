@@ -20,29 +20,29 @@ use Rattle.files.specs.Reading.{sameKey, seenIn, expressionBody, pairBod
 
 -- ---- what a test tells
 
-data Tells (P : Type 0) : Bool → Type 0 where
+pub data Tells (P : Type 0) : Bool → Type 0 where
   holds : P → Tells P true
   fails : (P → ⊥) → Tells P false
 
-told : {P : Type 0} (b : Bool) → (b ≡ true → P) × (b ≡ false → P → ⊥) → Tells P b
+pub told : {P : Type 0} (b : Bool) → (b ≡ true → P) × (b ≡ false → P → ⊥) → Tells P b
 told true h = holds (h .0 refl)
 told false h = fails (h .1 refl)
 
-tells-same : {P Q : Type 0} {b : Bool} → (P → Q) → (Q → P) → Tells P b → Tells Q b
+pub tells-same : {P Q : Type 0} {b : Bool} → (P → Q) → (Q → P) → Tells P b → Tells Q b
 tells-same f g (holds p) = holds (f p)
 tells-same f g (fails n) = fails (λ q. n (g q))
 
-tells-and : {P Q : Type 0} {a b : Bool} → Tells P a → Tells Q b → Tells (P × Q) (a && b)
+pub tells-and : {P Q : Type 0} {a b : Bool} → Tells P a → Tells Q b → Tells (P × Q) (a && b)
 tells-and (holds p) (holds q) = holds (p, q)
 tells-and (holds p) (fails n) = fails (λ h. n (h .1))
 tells-and (fails n) t = fails (λ h. n (h .0))
 
-tells-or : {P Q : Type 0} {a b : Bool} → Tells P a → Tells Q b → Tells (P ⊎ Q) (a || b)
+pub tells-or : {P Q : Type 0} {a b : Bool} → Tells P a → Tells Q b → Tells (P ⊎ Q) (a || b)
 tells-or (holds p) t = holds (inl p)
 tells-or (fails n) (holds q) = holds (inr q)
 tells-or (fails n) (fails m) = fails (⊎-elim n m)
 
-eqb-tells : (a b : ℕ) → Tells (a ≡ b) (eqb a b)
+pub eqb-tells : (a b : ℕ) → Tells (a ≡ b) (eqb a b)
 eqb-tells a b = told (eqb a b) (eqb-true a b, eqb-false a b)
 
 leb-tells : (a b : ℕ) → Tells (a ≤ b) (leb a b)

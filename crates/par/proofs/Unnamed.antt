@@ -36,6 +36,22 @@ unnamed-notices (repeat x) a u = unnamed-notices x a u
 unnamed-notices (notify x A) a (u, v) = ap₂ (λ c o. pushed c o A) (unnamed-status x a u) (unnamed-notices x a u)
 unnamed-notices (try x y) a (u, v) = ap₂ join (unnamed-notices x a u) (unnamed-notices y a v) ∙ none-join 0
 
+-- two such events leave the same
+pub unnamed-same : (x : Expr) (a b : ℕ) → Unnamed a x → Unnamed b x → remainder x a ≡ remainder x b
+unfolding remainder
+unnamed-same silent a b u v = refl
+unnamed-same (event c) a b u v = rw (other-event u, other-event v)
+unnamed-same (not x) a b u v = rw (unnamed-status x a u, unnamed-status x b v) (ap not (unnamed-same x a b u v))
+unnamed-same (either x y) a b (u, u') (v, v') =
+    rw (unnamed-status x a u, unnamed-status x b v, unnamed-status y a u', unnamed-status y b v')
+    (ap₂ either (unnamed-same x a b u v) (unnamed-same y a b u' v'))
+unnamed-same (then x y) a b (u, u') (v, v') = rw (unnamed-status x a u, unnamed-status x b v) (ap (λ d. then d y) (unnamed-same x a b u v))
+unnamed-same (repeat x) a b u v = rw (unnamed-status x a u, unnamed-status x b v) (ap (λ d. then d (repeat x)) (unnamed-same x a b u v))
+unnamed-same (notify x A) a b (u, u') (v, v') = rw (unnamed-status x a u, unnamed-status x b v) (ap (λ d. notify d A) (unnamed-same x a b u v))
+unnamed-same (try x y) a b (u, u') (v, v') =
+    rw (unnamed-status x a u, unnamed-status x b v, unnamed-status y a u', unnamed-status y b v')
+    (ap₂ try (unnamed-same x a b u v) (unnamed-same y a b u' v'))
+
 -- what is left behaves as before
 pub unnamed-like : (x : Expr) (a : ℕ) → Unnamed a x → Like (remainder x a) x
 unfolding remainder

@@ -1,33 +1,26 @@
--- `engine::stepped` meets its contract.
-use mathlib.Core.Logic.{⊎-elim}
+-- `engine::stepped` meets its contract: what `progressed` says is all that a step alters.
+use mathlib.Core.Path.{ap, _∙_}
 use borrow.Author.Needs.{needs}
+use Rattle.engine.specs.declared.Desk.{Desk}
+use Rattle.engine.specs.declared.Reply.{Reply}
+use Rattle.engine.specs.declared.Moved.{Moved}
+use Rattle.engine.specs.declared.Progress.{Progress}
 use Rattle.engine.specs.Desk.{steppedOf}
-use Rattle.engine.proofs.Advancing.{over-waits, over-ends}
+use Rattle.engine.proofs.Settling.{put, settles}
 use Rattle.engine.proofs.stepped.Statement.{statement}
 use Rattle.engine.proofs.stepped.Tie as tie
 
-advance-requires : tie.Need-advance-requires
-advance-requires c κs = search needs
+progressed-requires : tie.Need-progressed-requires
+progressed-requires c κs = search needs
 
-word-status-requires : tie.Need-word-status-requires
-word-status-requires c κs = search needs
+abbrev with-reply : Reply → Desk → Moved
+with-reply r d = record { desk = d; reply = r }
 
 returns : tie.Need-returns
-unfolding steppedOf
 returns c =
-    let b = c .before .before in
-    let d = b .before .before .before .before .before .before .before .before .args .t1 in
-    let w = b .advance .result in
-    let is-open = b .before .before .before .before .before .before .before .if1 .taken in
-    rw (is-open, ← b .advance .ensures, c .before .word-status .ensures)
-    (⊎-elim
-    (λ t. rw (over-ends (d .done) w (t .0 .taken), t .1, is-open))
-    (λ t. rw (over-waits (d .done) w (t .0 .left), t .1, is-open))
-    (c .if2 .came))
-
-returns-2 : tie.Need-returns-2
-unfolding steppedOf
-returns-2 c = rw (c .if1 .left)
+    let a = c .before .before .before .args in
+    ap (λ (p : Progress). with-reply (p .reply) (put (a .d) p)) (c .before .before .progressed .ensures)
+    ∙ ap (with-reply (steppedOf (a .d) (a .event) .reply)) (settles (a .d) (a .event))
 
 pub stepped-spec : {M : Type 1} → statement M
-stepped-spec = tie.close (tie.spec advance-requires word-status-requires returns returns-2)
+stepped-spec = tie.close (tie.spec progressed-requires returns)
