@@ -8,7 +8,8 @@
 //! * what an event does: [`figures`];
 //! * the two files: [`records`], [`expression_file`], [`pair_file`];
 //! * what is done with them: [`rule`], [`feed`], [`desk`], [`proposal`], [`printer`];
-//! * inputs to compare on: [`random`], [`examples`], [`generate`], [`cases`].
+//! * inputs to compare on: [`random`], [`examples`], [`generate`], [`cases`], [`worked`];
+//! * the comparison with another engine: [`compare`].
 
 pub mod number;
 pub mod status;
@@ -35,3 +36,9 @@ pub mod random;
 
 pub mod cases;
 pub mod generate;
+
+pub mod hex;
+
+pub mod worked;
+
+pub mod compare;

@@ -5,13 +5,20 @@ use std::process::ExitCode;
 
 use second::cases;
 use second::printer;
+use second::worked::{self, answers, sequence};
 
 const USAGE: &str = "usage: second COMMAND
 
-file-cases    write the sequence of file cases
-file-groups   list the groups of cases and how many cases each has
-file-answers  read such a sequence and print the answers to its cases
-print         read a printer input and print what the printer prints
+file-cases      write the sequence of file cases
+file-groups     list the groups of file cases and how many cases each has
+file-answers    read such a sequence and print the answers to its cases
+worked-cases    write the sequence of worked cases
+worked-groups   list the groups of worked cases and how many cases each has
+worked-answers  read such a sequence and print the answers to its cases
+print           read a printer input and print what the printer prints
+
+compare [COUNT [SEED]]
+                compare with the engine that is linked in by the feature `compare`
 ";
 
 fn main() -> ExitCode {
@@ -20,7 +27,11 @@ fn main() -> ExitCode {
         ["file-cases"] => Ok(cases::write_sequence(&cases::groups())),
         ["file-groups"] => Ok(file_groups()),
         ["file-answers"] => file_answers(),
+        ["worked-cases"] => Ok(sequence::write(&worked::stored())),
+        ["worked-groups"] => Ok(worked_groups()),
+        ["worked-answers"] => worked_answers(),
         ["print"] => whole_input().map(|input| printer::printed(&input).into_bytes()),
+        ["compare", ref numbers @ ..] => compare(numbers),
         _ => Err(USAGE.to_string()),
     };
     let written = output.and_then(|bytes| {
@@ -50,11 +61,21 @@ fn whole_input() -> Result<Vec<u8>, String> {
 
 fn file_groups() -> Vec<u8> {
     let groups = cases::groups();
+    listed(groups.iter().map(|group| (group.name, group.cases.len())))
+}
+
+fn worked_groups() -> Vec<u8> {
+    let groups = worked::groups();
+    listed(groups.iter().map(|group| (group.name, group.cases.len())))
+}
+
+fn listed<'a>(groups: impl Iterator<Item = (&'a str, usize)>) -> Vec<u8> {
     let mut text = String::new();
-    for group in &groups {
-        text.push_str(&format!("{:4} {}\n", group.cases.len(), group.name));
+    let mut total = 0;
+    for (name, count) in groups {
+        text.push_str(&format!("{count:4} {name}\n"));
+        total += count;
     }
-    let total: usize = groups.iter().map(|group| group.cases.len()).sum();
     text.push_str(&format!("{total:4} in all\n"));
     text.into_bytes()
 }
@@ -63,4 +84,23 @@ fn file_answers() -> Result<Vec<u8>, String> {
     let cases = cases::read_sequence(&whole_input()?)
         .ok_or("the sequence ends in the middle of a case\n")?;
     Ok(cases::answers(&cases).into_bytes())
+}
+
+fn worked_answers() -> Result<Vec<u8>, String> {
+    let cases =
+        sequence::read(&whole_input()?).ok_or("the input isn't a sequence of worked cases\n")?;
+    Ok(answers::answers(&cases).into_bytes())
+}
+
+#[cfg(feature = "compare")]
+fn compare(numbers: &[&str]) -> Result<Vec<u8>, String> {
+    second::compare::command::compare(numbers)
+}
+
+#[cfg(not(feature = "compare"))]
+fn compare(_: &[&str]) -> Result<Vec<u8>, String> {
+    Err(
+        "this program was built without the feature `compare`: no engine is linked in\n"
+            .to_string(),
+    )
 }

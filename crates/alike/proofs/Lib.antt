@@ -1,4 +1,5 @@
--- The laws of the judge, in the order in which they rest on each other.
+-- Promises restates the main theorems; the others prove them, in this order.
+pub mod Promises
 pub mod Writing
 pub mod Sorting
 pub mod Growing
@@ -6,3 +7,13 @@ pub mod Rows
 pub mod Placing
 pub mod Answering
 pub mod Filling
+pub mod Faults
+pub mod Settling
+pub mod Quiet
+pub mod Pointwise
+pub mod Scanning
+pub mod Judging
+pub mod Tails
+pub mod Readying
+pub mod AcceptedAlike
+pub mod Examples

@@ -4,4 +4,6 @@ pub mod Proposal
 pub mod Columns
 pub mod Plans
 pub mod List
+pub mod Settled
 pub mod Verdict
+pub mod Ready

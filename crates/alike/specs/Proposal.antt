@@ -5,7 +5,6 @@ use mathlib.Core.Logic.{_≢_}
 use mathlib.Core.Bool.{Bool, true, false}
 use mathlib.Core.List.{List}
 use lib.ListN.{length, getD}
-use Rattle.par.specs.Expr.{Expr}
 use Rattle.records.specs.Fields.{wordAt}
 use Rattle.records.specs.Walk.{Found}
 use Rattle.files.specs.Reading.{reading, readingPairs}

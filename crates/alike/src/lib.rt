@@ -6,8 +6,8 @@ pub mod verdict; // verdict.rt: the first fault among pairs and events
 
 ghost use mathlib.Core.Path.{_≡_};
 ghost use lib.ListN.{drop};
-ghost use Rattle.alike.specs.Verdict.{judged, shownOf};
-ghost use Rattle.alike.specs.Ready.{Ready, Settles};
+ghost use Rattle.alike.specs.Verdict.{closing, judged, shownOf};
+ghost use Rattle.alike.specs.Ready.{Ready};
 use verdict::Fault;
 
 // The number, whether the faulty record is in the pair file, and its place there.
@@ -28,7 +28,7 @@ fn settle(
     listed: usize,
 ) -> Fault
     requires { ⌜ Ready (now expressions) (now at) (now ix) count (now pairs) (now places) listed ⌝ }
-    ensures { λ r. ⌜ Settles (now (expressions .entry)) (now (pairs .entry)) r ⌝ }
+    ensures { λ r. ⌜ r ≡ closing (now (expressions .entry)) (now (pairs .entry)) ⌝ }
 {
     let mut kinds = [0u8; 1024];
     let mut xs = [0usize; 1024];

@@ -1,5 +1,5 @@
 -- The nodes of a rule file: where the number is 0 they mean its rule, else no node stands.
-use Prim.Native.Nat.{ℕ, _-_, _≤_, _<_, min}
+use Prim.Native.Nat.{ℕ, _+_, _-_, _≤_, _<_, min}
 use mathlib.Core.Path.{_≡_, refl, sym, _∙_}
 use mathlib.Core.Logic.{_≢_}
 use mathlib.Core.List.{List, replicate}
@@ -59,6 +59,10 @@ module _ (s : List ℕ) where
       let is = rule-out e .count in
       let room = rule-number-0 s .0 e .1 in
       rw (nodes-some e) (omega arith)
+
+  -- the nodes are as many as the rule's size
+  pub root-size : ruleNumber s ≡ 0 → nodesOf s .root + 1 ≡ size (rule s)
+  root-size e = let is = rule-out e .count in rw (nodes-some e) (omega (arith, size-some (rule s)))
 
   pub nodes-long : (length (nodesOf s .fixed) ≡ 64) × (length (nodesOf s .sets) ≡ 64)
   unfolding nodesOf

@@ -7,7 +7,6 @@ ghost use lib.ListN.{length};
 ghost use lib.Seq.{sets as setsAt};
 ghost use Rattle.printout.specs.Text.{text as textOf};
 ghost use Rattle.printout.specs.Printed.{PrintedAs, linesFrom, ruleTextFrom};
-
 use par::Notices;
 
 // Prints the answers of a rule's nodes, where they fit; how long the text is.
@@ -52,7 +51,12 @@ fn put_lines<'a>(
         let event = events[i];
         let mut sent = 0;
         let w = engine::feed::advance(fixed, sets, &mut phases, &mut sent, root, done, event);
-        text::put_line(&mut output[at..], event, sent, engine::moves::word_status(w));
+        text::put_line(
+            &mut output[at..],
+            event,
+            sent,
+            engine::moves::word_status(w),
+        );
         if w % 4 != 0 {
             done = true;
         }
@@ -82,5 +86,11 @@ pub fn print(input: &[u8], output: &mut [u8]) -> usize
     if number != 0 {
         return text::put_refusal(output, number);
     }
-    put_rule(&nodes.fixed, &nodes.sets, nodes.root, &input[start..], output)
+    put_rule(
+        &nodes.fixed,
+        &nodes.sets,
+        nodes.root,
+        &input[start..],
+        output,
+    )
 }

@@ -5,7 +5,6 @@ ghost use lib.ListN.{length};
 ghost use lib.Seq.{sets};
 ghost use Rattle.printout.specs.Text.{hexDigit, decimalLength, decimal, statusWord, line, refusedText};
 ghost use Rattle.printout.specs.Printed.{PrintedAs};
-
 use par::Notices;
 use par::Status;
 

@@ -26,7 +26,7 @@ pub fn groups() -> Vec<Group> {
 }
 
 /// At most 64 records; one pair file in eight may name a record that isn't there.
-fn valid(random: &mut Random) -> Case {
+pub fn valid(random: &mut Random) -> Case {
     let records = match random.below(3) {
         0 => running_rule(random),
         1 => {

@@ -36,14 +36,19 @@ pub fn events_for(random: &mut Random, records: &[Record], count: usize) -> Vec<
         .collect()
 }
 
-/// A rule file that mostly runs, and events for it.
-pub fn rule_and_events(random: &mut Random, most_events: usize) -> (Vec<u8>, Vec<u8>) {
-    let records = if random.once_in(4) {
+/// A rule that mostly runs; now and then its size is a little above 64.
+pub fn random_rule(random: &mut Random) -> Vec<Record> {
+    if random.once_in(4) {
         let count = random.between(1, 30);
         records_with_sharing(random, count, 70)
     } else {
         running_rule(random)
-    };
+    }
+}
+
+/// A rule file that mostly runs, and events for it.
+pub fn rule_and_events(random: &mut Random, most_events: usize) -> (Vec<u8>, Vec<u8>) {
+    let records = random_rule(random);
     let count = random.between(0, most_events);
     let events = events_for(random, &records, count);
     let mut rule_file = expression_file::write(&records);

@@ -52,6 +52,19 @@ pub fn padded(records: &[Record], count: usize) -> Vec<Record> {
     padded
 }
 
+/// The same rule in so many records: those that nothing needs stand before its last.
+///
+/// A rule of one record has none that could stand before it, and stays as it is.
+pub fn stretched(records: &[Record], count: usize) -> Vec<Record> {
+    if records.len() < 2 {
+        return records.to_vec();
+    }
+    let mut stretched = padded(records, count);
+    let last = stretched.remove(records.len() - 1);
+    stretched.push(last);
+    stretched
+}
+
 /// The same pair so many times: repeats are allowed.
 pub fn same_pair(pair: Pair, count: usize) -> Vec<Pair> {
     vec![pair; count]

@@ -1,10 +1,18 @@
 //! Random files of records that read without fault.
 
 use crate::construct::Construct::*;
-use crate::expression_file::Record;
+use crate::expression_file::{self, Record};
 use crate::generate::closing::RecordList;
 use crate::generate::trees::{random_alphabet, random_notices, tree_of_size};
 use crate::random::Random;
+use crate::tree::Tree;
+
+/// The file of an expression; equal parts are one record.
+pub fn file_of(tree: &Tree) -> Vec<u8> {
+    let mut list = RecordList::new();
+    list.add(tree);
+    expression_file::write(&list.records())
+}
 
 /// A rule of exactly this size; equal parts are one record.
 pub fn rule_of_size(random: &mut Random, size: usize) -> Vec<Record> {
@@ -29,14 +37,25 @@ pub fn running_rule(random: &mut Random) -> Vec<Record> {
 /// The last record need not use the others, and its size may be out of all proportion.
 pub fn records_with_sharing(random: &mut Random, count: usize, largest: u64) -> Vec<Record> {
     let alphabet = random_alphabet(random);
-    let mut records: Vec<Record> = Vec::new();
-    let mut sizes: Vec<u64> = Vec::new();
+    extended(random, &alphabet, Vec::new(), count, largest)
+}
+
+/// Records behind those that are there, until there are so many.
+pub fn extended(
+    random: &mut Random,
+    alphabet: &[u8],
+    mut records: Vec<Record>,
+    count: usize,
+    largest: u64,
+) -> Vec<Record> {
+    let trees = expression_file::trees(&records);
+    let mut sizes: Vec<u64> = trees.iter().map(Tree::size).collect();
     while records.len() < count {
         // An event alone is enough to start with; notify always leaves something new to add.
         let record = if records.is_empty() {
-            Event(*random.pick(&alphabet))
+            Event(*random.pick(alphabet))
         } else {
-            random_record(random, &alphabet, records.len())
+            random_record(random, alphabet, records.len())
         };
         let size = record.parts().iter().fold(1u64, |sum, part| {
             sum.saturating_add(sizes[usize::from(**part)])

@@ -1,0 +1,1 @@
+-- The walks of the two functions that a desk is lent to stand in their folders.

@@ -1,0 +1,99 @@
+// What other languages call: slices cross as a pointer and a length, statuses as their byte, structs by value.
+ghost use mathlib.Core.Path.{_≡_};
+ghost use Rattle.engine.specs.Feed.{Fed};
+ghost use Rattle.engine.specs.Desk.{emptyDesk, openedOf, steppedOf};
+ghost use Rattle.alike.specs.Verdict.{judged};
+ghost use Rattle.meadwhistle.specs.Flat.{flatReply, partOf};
+
+use engine::Desk;
+use engine::Ran;
+use engine::Reply;
+
+// A reply in numbers: the number, the status byte, the notices, the lines.
+#[repr(C)]
+pub struct FlatReply {
+    pub number: u8,
+    pub status: u8,
+    pub notices: u16,
+    pub lines: u64,
+}
+
+// Answers a whole feed.
+#[no_mangle]
+pub extern "C" fn meadwhistle_run(
+    rule: &[u8],
+    events: &[u8],
+    answers: &mut [u8],
+    place: usize,
+) -> Ran
+    ensures { λ r. ⌜ Fed (now (rule .entry)) (now (events .entry)) place (now (answers .entry)) r (now (answers .exit)) ⌝ }
+{
+    engine::run(rule, events, answers, place)
+}
+
+// A desk with no rule open.
+#[no_mangle]
+pub extern "C" fn meadwhistle_desk_empty() -> Desk
+    ensures { λ r. ⌜ r ≡ emptyDesk ⌝ }
+{
+    engine::empty()
+}
+
+// Opens a rule on a desk, fresh; refused, the desk is as it was.
+#[no_mangle]
+pub extern "C" fn meadwhistle_desk_open(d: &mut Desk, rule: &[u8]) -> u8
+    ensures { λ r. ⌜ (r ≡ openedOf (now (d .entry)) (now (rule .entry)) .number) × (now (d .exit) ≡ openedOf (now (d .entry)) (now (rule .entry)) .desk) ⌝ }
+{
+    let s = engine::opened(*d, rule);
+    *d = s.desk;
+    s.number
+}
+
+fn flat(reply: Reply) -> FlatReply
+    ensures { λ r. ⌜ r ≡ flatReply reply ⌝ }
+{
+    let answer = reply.answer;
+    let status = answer.status;
+    FlatReply {
+        number: reply.number,
+        status: par::status_byte(status),
+        notices: answer.notices,
+        lines: answer.lines,
+    }
+}
+
+// Moves an open desk on by one event; refused, the desk is as it was.
+#[no_mangle]
+pub extern "C" fn meadwhistle_desk_step(d: &mut Desk, event: u8) -> FlatReply
+    ensures { λ r. ⌜ (r ≡ flatReply (steppedOf (now (d .entry)) event .reply)) × (now (d .exit) ≡ steppedOf (now (d .entry)) event .desk) ⌝ }
+{
+    let reply = engine::step(d, event);
+    flat(reply)
+}
+
+// The number of a proposal: 0 where it is accepted.
+#[no_mangle]
+pub extern "C" fn meadwhistle_judge(expressions: &[u8], pairs: &[u8]) -> u8
+    ensures { λ r. ⌜ r ≡ judged (now (expressions .entry)) (now (pairs .entry)) .number ⌝ }
+{
+    alike::judge(expressions, pairs)
+}
+
+// Where the faulty record of a proposal stands: file 0 is the expressions, 1 the pairs.
+#[repr(C)]
+pub struct Part {
+    pub file: u8,
+    pub place: usize,
+}
+
+// The faulty record of the same proposal; on acceptance the pair file's end.
+#[no_mangle]
+pub extern "C" fn meadwhistle_shown(expressions: &[u8], pairs: &[u8]) -> Part
+    ensures { λ r. ⌜ r ≡ partOf (judged (now (expressions .entry)) (now (pairs .entry))) ⌝ }
+{
+    let verdict = alike::verdict_of(expressions, pairs);
+    Part {
+        file: verdict.in_pairs as u8,
+        place: verdict.place,
+    }
+}

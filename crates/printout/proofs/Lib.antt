@@ -1,0 +1,7 @@
+-- Promises has what this crate promises; the others prove it and the code, in this order.
+pub mod Promises
+pub mod Words
+pub mod Outputs
+pub mod Lines
+pub mod Texts
+pub mod SwapText
