@@ -3,8 +3,7 @@ ghost use mathlib.Core.Path.{_≡_};
 ghost use Rattle.engine.specs.Feed.{Fed};
 ghost use Rattle.engine.specs.Desk.{emptyDesk, openedOf, steppedOf};
 ghost use Rattle.alike.specs.Verdict.{judged};
-ghost use Rattle.meadwhistle.specs.Flat.{flatReply, partOf};
-
+ghost use Rattle.meadwhistle.specs.Flat.{flatReply};
 use engine::Desk;
 use engine::Ran;
 use engine::Reply;
@@ -77,23 +76,4 @@ pub extern "C" fn meadwhistle_judge(expressions: &[u8], pairs: &[u8]) -> u8
     ensures { λ r. ⌜ r ≡ judged (now (expressions .entry)) (now (pairs .entry)) .number ⌝ }
 {
     alike::judge(expressions, pairs)
-}
-
-// Where the faulty record of a proposal stands: file 0 is the expressions, 1 the pairs.
-#[repr(C)]
-pub struct Part {
-    pub file: u8,
-    pub place: usize,
-}
-
-// The faulty record of the same proposal; on acceptance the pair file's end.
-#[no_mangle]
-pub extern "C" fn meadwhistle_shown(expressions: &[u8], pairs: &[u8]) -> Part
-    ensures { λ r. ⌜ r ≡ partOf (judged (now (expressions .entry)) (now (pairs .entry))) ⌝ }
-{
-    let verdict = alike::verdict_of(expressions, pairs);
-    Part {
-        file: verdict.in_pairs as u8,
-        place: verdict.place,
-    }
 }
