@@ -48,7 +48,7 @@ meadwhistle_ran meadwhistle_run(const uint8_t *rule, size_t rule_len,
 
 /*
  * A desk: a place for one rule that takes its events one by one. Make it with meadwhistle_desk_empty, change it by the two calls
- * below alone, and copy it as you like. Its fields are the engine's.
+ * below alone, and copy it as you like. Its fields are the engine's; `is_open` and `done` must be 0 or 1.
  */
 typedef struct {
     bool is_open;
