@@ -98,7 +98,7 @@ pub P2 : linesOn (freshDesk swapBytes) (o ∷ a ∷ c ∷ []) ≡ 3 ∷ 6 ∷ 5 
 unfolding linesOn freshDesk steppedOf advanced stepped routeOf oneStatus onePhase bothStatus bothPhase zeroed freshened told join
 P2 =
     ap (λ (n : Nodes). linesOn
-    (record { is_open = true; done = false; root = n .root; fixed = n .fixed; sets = n .sets; phases = replicate 64 0 }) (o ∷ a ∷ c ∷ []))
+    (record { is_open = 1; done = 0; root = n .root; fixed = n .fixed; sets = n .sets; phases = replicate 64 0 }) (o ∷ a ∷ c ∷ []))
     swap-nodes
 
 -- ---- the supplier's form: repeat (o then try (notify ((notify a, 1) then c), 2) unless w)

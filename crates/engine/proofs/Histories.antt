@@ -32,7 +32,7 @@ no-16 x feed a h = let few = size-after-64 x (feed ++ (a ∷ [])) h in rw (le-lt
 -- ---- a desk and its book
 
 data Keeps (d : Desk) : Book → Type 0 where
-  shut : d .is_open ≡ false → Keeps d closed
+  shut : d .is_open ≡ 0 → Keeps d closed
   sits : {x : Expr} {feed : List ℕ} → size x ≤ 64 → Sitting d x feed → Keeps d («open» x feed)
 
 -- after one call, both go on together

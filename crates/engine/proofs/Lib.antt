@@ -23,7 +23,9 @@ pub mod Links
 pub mod Written
 pub mod Rooms
 pub mod Advancing
+pub mod Marks
 pub mod Settling
+pub mod DeskParts
 pub mod Buffers
 pub mod Feeding
 pub mod Standing

@@ -19,7 +19,7 @@ use Rattle.engine.specs.Moves.{stepped, advanced}
 use Rattle.engine.specs.Means.{Own, Means}
 use Rattle.engine.specs.WrittenOut.{nodesOf}
 use Rattle.engine.specs.Feed.{answerBytes, fedBytes, Fed}
-use Rattle.engine.specs.Desk.{emptyDesk, freshDesk, openedOf, refusal, steppedOf}
+use Rattle.engine.specs.Desk.{emptyDesk, freshDesk, marked, openedOf, refusal, steppedOf}
 use Rattle.engine.specs.History.{Call, Call.stepping, Back.replied, BytesIn, Book.closed, stepNumber, desksBack, backBytes, booksBack}
 use Rattle.engine.proofs.Right.{Good}
 use Rattle.engine.proofs.Right
@@ -75,11 +75,11 @@ history = Histories.history
 pub refused-opening : (d : Desk) (s : List ℕ) → ruleNumber s ≢ 0 → openedOf d s .desk ≡ d
 refused-opening = Desks.refused-opening
 
-pub closed-step : (d : Desk) (a : ℕ) → d .is_open ≡ false → steppedOf d a ≡ record { desk = d; reply = refusal 15 }
+pub closed-step : (d : Desk) (a : ℕ) → d .is_open ≡ 0 → steppedOf d a ≡ record { desk = d; reply = refusal 15 }
 closed-step = Desks.closed-step
 
 -- A finished rule stays open and silent.
-pub finished-step : (d : Desk) (a : ℕ) → d .is_open ≡ true → d .done ≡ true
+pub finished-step : (d : Desk) (a : ℕ) → d .is_open ≢ 0 → d .done ≢ 0
     → steppedOf d a ≡ record { desk = d; reply = record { number = 0; answer = nothing } }
 finished-step = Desks.finished-step
 
@@ -96,8 +96,8 @@ pub step-answers : (d : Desk) (x : Expr) (feed : List ℕ) → Sitting d x feed 
 step-answers = Sitting.step-answers
 
 -- The tests for nodes out of place, which keep a step safe on any desk whatever, change nothing where a rule sits.
-pub sitting-untested : (d : Desk) (x : Expr) (feed : List ℕ) → Sitting d x feed → d .done ≡ false → (a sent : ℕ)
-    → advanced (d .fixed) (d .sets) (d .root) (d .done) a (d .phases) sent ≡ plain (d .fixed) (d .sets) a (suc (d .root)) 0 (d .root) (d .phases) sent
+pub sitting-untested : (d : Desk) (x : Expr) (feed : List ℕ) → Sitting d x feed → d .done ≡ 0 → (a sent : ℕ)
+    → advanced (d .fixed) (d .sets) (d .root) (marked (d .done)) a (d .phases) sent ≡ plain (d .fixed) (d .sets) a (suc (d .root)) 0 (d .root) (d .phases) sent
 sitting-untested = Sitting.sitting-untested
 
 -- ---- A desk that is fed event by event and a whole feed that is run give the same

@@ -17,21 +17,22 @@ use Rattle.engine.specs.declared.Moved.{Moved}
 use Rattle.engine.specs.declared.ways.Route.the-variants.{Silent}
 use Rattle.engine.specs.Nodes.{kindAt}
 use Rattle.engine.specs.Moves.{advanced}
-use Rattle.engine.specs.Desk.{freshDesk, movedTo, steppedOf}
+use Rattle.engine.specs.Desk.{freshDesk, marked, movedTo, steppedOf}
 use Rattle.engine.proofs.Routes.{routeAt}
 use Rattle.engine.proofs.Safe.{no-misfit}
 use Rattle.engine.proofs.RuleNodes.{nodes-own, root-small, nodes-long}
+use Rattle.engine.proofs.Marks.{marked-done}
 use Rattle.engine.proofs.Untested.{plain, untested}
 use Rattle.engine.proofs.Advancing.{advanced-on}
 use Rattle.engine.proofs.Standing.{Stands, Stands.going, Answered, advance-right, fresh-stands}
 
 pub record Sitting (d : Desk) (x : Expr) (feed : List ℕ) : Type 0 where
-  pub open-is : d .is_open ≡ true
+  pub open-is : marked (d .is_open) ≡ true
   pub root-low : d .root < 64
   pub nodes-wide : length (d .fixed) ≡ 64
   pub sets-wide : length (d .sets) ≡ 64
   pub phases-wide : length (d .phases) ≡ 64
-  pub stands : Stands (d .fixed) (d .sets) (d .root) (d .phases) (d .done) (after x feed)
+  pub stands : Stands (d .fixed) (d .sets) (d .root) (d .phases) (marked (d .done)) (after x feed)
 
 -- ---- opening
 
@@ -60,11 +61,12 @@ after-more x [] a = refl
 after-more x (b ∷ feed) a = after-more (remainder x b) feed a
 
 module _ (d : Desk) (x : Expr) (feed : List ℕ) (s : Sitting d x feed) (a : ℕ) where
-  moved : steppedOf d a ≡ movedTo d (advanced (d .fixed) (d .sets) (d .root) (d .done) a (d .phases) 0)
+  moved : steppedOf d a ≡ movedTo d (advanced (d .fixed) (d .sets) (d .root) (marked (d .done)) a (d .phases) 0)
   unfolding steppedOf
   moved = rw (s .open-is)
 
-  answered : Answered (d .fixed) (d .sets) (d .root) a (d .done) (after x feed) 0 (advanced (d .fixed) (d .sets) (d .root) (d .done) a (d .phases) 0)
+  answered : Answered (d .fixed) (d .sets) (d .root) a (marked (d .done)) (after x feed) 0
+      (advanced (d .fixed) (d .sets) (d .root) (marked (d .done)) a (d .phases) 0)
   answered = advance-right (d .fixed) (d .sets) (d .root) a (s .root-low) (s .phases-wide) (s .stands) 0
 
   pub step-sits : Sitting (steppedOf d a .desk) x (feed ++ (a ∷ []))
@@ -75,7 +77,7 @@ module _ (d : Desk) (x : Expr) (feed : List ℕ) (s : Sitting d x feed) (a : ℕ
         nodes-wide = s .nodes-wide;
         sets-wide = s .sets-wide;
         phases-wide = answered .long;
-        stands = rw (after-more x feed a) (answered .stands);
+        stands = rw (after-more x feed a, marked-done (d .done) (advanced (d .fixed) (d .sets) (d .root) (marked (d .done)) a (d .phases) 0 .status)) (answered .stands);
       })
 
   -- what the figures say of the event
@@ -95,12 +97,12 @@ module _ {F S P : List ℕ} {root : ℕ} {x : Expr} where
   stands-untested : root < 64 → Stands F S root P false x → (a sent : ℕ) → advanced F S root false a P sent ≡ plain F S a (suc root) 0 root P sent
   stands-untested h (going m) a sent = advanced-on F S root a P sent h ∙ untested F S a (suc root) m sent
 
-module _ (d : Desk) (x : Expr) (feed : List ℕ) (s : Sitting d x feed) (goes : d .done ≡ false) where
+module _ (d : Desk) (x : Expr) (feed : List ℕ) (s : Sitting d x feed) (goes : d .done ≡ 0) where
   -- while the rule goes on, its root is passed over as silent only where it is silent
   pub sitting-safe : routeAt (d .fixed) (d .phases) 0 (d .root) ≡ Silent → kindAt (d .fixed) (d .root) ≡ 1
   sitting-safe = stands-safe (rw goes at (s .stands))
 
   -- and all its nodes take the event as they would with no test
   pub sitting-untested : (a sent : ℕ)
-      → advanced (d .fixed) (d .sets) (d .root) (d .done) a (d .phases) sent ≡ plain (d .fixed) (d .sets) a (suc (d .root)) 0 (d .root) (d .phases) sent
+      → advanced (d .fixed) (d .sets) (d .root) (marked (d .done)) a (d .phases) sent ≡ plain (d .fixed) (d .sets) a (suc (d .root)) 0 (d .root) (d .phases) sent
   sitting-untested a sent = rw goes (stands-untested (s .root-low) (rw goes at (s .stands)) a sent)

@@ -7,7 +7,8 @@ pub mod feed; // feed.rt: the whole feed
 pub use feed::Ran;
 pub use feed::run;
 ghost use mathlib.Core.Path.{_≡_};
-ghost use Rattle.engine.specs.Desk.{emptyDesk, steppedOf, progressOf, openedOf};
+ghost use lib.ListN.{length};
+ghost use Rattle.engine.specs.Desk.{emptyDesk, openedOf, steppedOf, Gives};
 use par::Answer;
 use par::Notices;
 use par::Status;
@@ -15,8 +16,8 @@ use par::Status;
 // A place for one rule that takes its events one by one. Made by `empty`, changed by `open` and `step` alone.
 #[repr(C)]
 pub struct Desk {
-    is_open: bool,
-    done: bool,
+    is_open: u8,
+    done: u8,
     root: usize,
     fixed: [u32; 64],
     sets: [Notices; 64],
@@ -34,13 +35,6 @@ pub struct Moved {
     pub reply: Reply,
 }
 
-// What an event alters on a desk, and its reply: a desk's other fields stay, so these alone are stored.
-pub struct Progress {
-    pub phases: [u8; 64],
-    pub done: bool,
-    pub reply: Reply,
-}
-
 pub struct Begun {
     pub desk: Desk,
     pub number: u8,
@@ -51,8 +45,8 @@ pub fn empty() -> Desk
     ensures { λ r. ⌜ r ≡ emptyDesk ⌝ }
 {
     Desk {
-        is_open: false,
-        done: false,
+        is_open: 0,
+        done: 0,
         root: 0,
         fixed: [0; 64],
         sets: [0; 64],
@@ -73,8 +67,8 @@ pub fn opened(d: Desk, rule: &[u8]) -> Begun
     let sets = nodes.sets;
     Begun {
         desk: Desk {
-            is_open: true,
-            done: false,
+            is_open: 1,
+            done: 0,
             root: nodes.root,
             fixed,
             sets,
@@ -84,51 +78,50 @@ pub fn opened(d: Desk, rule: &[u8]) -> Begun
     }
 }
 
-// The work of `step`, by value.
-pub fn progressed(d: Desk, event: u8) -> Progress
-    ensures { λ r. ⌜ r ≡ progressOf (steppedOf d event) ⌝ }
+// The work of `step` on the fields of a desk, lent: the nodes stay, the phases and whether the rule is done move on.
+fn move_on<'a>(
+    is_open: u8,
+    root: usize,
+    fixed: &'a [u32; 64],
+    sets: &'a [Notices; 64],
+    phases: &mut [u8; 64],
+    done: &mut u8,
+    event: u8,
+) -> Reply
+    requires { ⌜ (length (now fixed) ≡ 64) × (length (now sets) ≡ 64) × (length (now phases) ≡ 64) ⌝ }
+    ensures { λ r. ⌜ Gives
+        (steppedOf (record {
+          is_open = is_open;
+          done = now (done .entry);
+          root = root;
+          fixed = now (fixed .entry);
+          sets = now (sets .entry);
+          phases = now (phases .entry);
+        }) event)
+        r (now (phases .exit)) (now (done .exit)) ⌝ }
 {
-    let mut phases = d.phases;
-    let mut done = d.done;
-    let is = d.is_open;
-    if is {
-        let mut sent = 0;
-        let w = feed::advance(
-            &d.fixed,
-            &d.sets,
-            &mut phases,
-            &mut sent,
-            d.root,
-            done,
-            event,
-        );
-        let status = moves::word_status(w);
-        if w % 4 != 0 {
-            done = true;
-        }
-        return Progress {
-            phases,
-            done,
-            reply: Reply {
-                number: 0,
-                answer: Answer {
-                    notices: sent,
-                    lines: w / 4,
-                    status,
-                },
-            },
-        };
-    }
-    Progress {
-        phases,
-        done,
-        reply: Reply {
+    if is_open == 0 {
+        return Reply {
             number: 15,
             answer: Answer {
                 notices: 0,
                 lines: 0,
                 status: Status::Waiting,
             },
+        };
+    }
+    let mut sent = 0;
+    let was = *done != 0;
+    let w = feed::advance(fixed, sets, phases, &mut sent, root, was, event);
+    if w % 4 != 0 {
+        *done = 1;
+    }
+    Reply {
+        number: 0,
+        answer: Answer {
+            notices: sent,
+            lines: w / 4,
+            status: moves::word_status(w),
         },
     }
 }
@@ -137,12 +130,20 @@ pub fn progressed(d: Desk, event: u8) -> Progress
 pub fn stepped(d: Desk, event: u8) -> Moved
     ensures { λ r. ⌜ r ≡ steppedOf d event ⌝ }
 {
-    let p = progressed(d, event);
-    let phases = p.phases;
-    let reply = p.reply;
+    let mut phases = d.phases;
+    let mut done = d.done;
+    let reply = move_on(
+        d.is_open,
+        d.root,
+        &d.fixed,
+        &d.sets,
+        &mut phases,
+        &mut done,
+        event,
+    );
     let mut next = d;
     next.phases = phases;
-    next.done = p.done;
+    next.done = done;
     Moved { desk: next, reply }
 }
 
@@ -159,8 +160,13 @@ pub fn open(d: &mut Desk, rule: &[u8]) -> u8
 pub fn step(d: &mut Desk, event: u8) -> Reply
     ensures { λ r. ⌜ (r ≡ steppedOf (now (d .entry)) event .reply) × (now (d .exit) ≡ steppedOf (now (d .entry)) event .desk) ⌝ }
 {
-    let s = progressed(*d, event);
-    d.phases = s.phases;
-    d.done = s.done;
-    s.reply
+    move_on(
+        d.is_open,
+        d.root,
+        &d.fixed,
+        &d.sets,
+        &mut d.phases,
+        &mut d.done,
+        event,
+    )
 }
