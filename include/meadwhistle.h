@@ -10,12 +10,12 @@
  * list; 4 length isn't that kind's; 5 x or y isn't an earlier record; 6 same kind and body as an earlier record; 7 a record
  * follows the 1,024th, or a pair the 256th; 8 the rule's size is above 64; 9 the place is past the answer buffer's end, or the
  * room is too small; 10 notices differ; 11 statuses differ; 12 a remainder isn't in the file; 13 the remainders are neither one
- * record nor listed; 14 a pair names a record that isn't there; 15 a step on a desk with no rule open; 16 never given.
+ * record nor listed; 14 a pair names a record that isn't there; 15 a step on a desk with no rule open; 16 never given; 17 printer
+ * input above 8,192 bytes.
  */
 #ifndef MEADWHISTLE_H
 #define MEADWHISTLE_H
 
-#include <stdbool.h>
 #include <stddef.h>
 #include <stdint.h>
 
@@ -48,11 +48,11 @@ meadwhistle_ran meadwhistle_run(const uint8_t *rule, size_t rule_len,
 
 /*
  * A desk: a place for one rule that takes its events one by one. Make it with meadwhistle_desk_empty, change it by the two calls
- * below alone, and copy it as you like. Its fields are the engine's; `is_open` and `done` must be 0 or 1.
+ * below alone, and copy it as you like. Its fields are the engine's; a step is safe on any bytes in them.
  */
 typedef struct {
-    bool is_open;
-    bool done;
+    uint8_t is_open;
+    uint8_t done;
     size_t root;
     uint32_t fixed[64];
     uint16_t sets[64];
@@ -71,12 +71,15 @@ typedef struct {
 meadwhistle_desk meadwhistle_desk_empty(void);
 
 /*
- * Opens a rule on a desk, fresh, also where one is open. The number is that of the rule file, then 8. Refused: the desk is as it
- * was.
+ * Opens a rule on a desk, fresh, also where one is open. The number is that of the rule file, then 8. Refused: each of
+ * the desk's fields is as it was.
  */
 uint8_t meadwhistle_desk_open(meadwhistle_desk *desk, const uint8_t *rule, size_t rule_len);
 
-/* Moves an open desk on by one event. 15 where no rule is open; then the desk is as it was. A finished rule stays open and silent. */
+/*
+ * Moves an open desk on by one event. 15 where no rule is open; then each of the desk's fields is as it was. A finished rule stays
+ * open and silent.
+ */
 meadwhistle_reply meadwhistle_desk_step(meadwhistle_desk *desk, uint8_t event);
 
 /*
@@ -85,6 +88,22 @@ meadwhistle_reply meadwhistle_desk_step(meadwhistle_desk *desk, uint8_t event);
  */
 uint8_t meadwhistle_judge(const uint8_t *expressions, size_t expressions_len,
                           const uint8_t *pairs, size_t pairs_len);
+
+/* Where the faulty record of a proposal stands: file 0 is the expressions, 1 the pairs. The part runs from `place` to that file's end. */
+typedef struct {
+    uint8_t file;
+    size_t place;
+} meadwhistle_part;
+
+/* The faulty record of the same proposal. For 10 to 13 it is the pair; where the proposal is accepted, the empty part at the pairs' end. */
+meadwhistle_part meadwhistle_shown(const uint8_t *expressions, size_t expressions_len,
+                                   const uint8_t *pairs, size_t pairs_len);
+
+/*
+ * The printer's text for an input: two bytes of length, a rule file of that length, then the events. Returns the text's length. The
+ * text is written at the front of `output` where it fits; where it does not, no byte of `output` changes.
+ */
+size_t meadwhistle_print(const uint8_t *input, size_t input_len, uint8_t *output, size_t output_len);
 
 #ifdef __cplusplus
 }

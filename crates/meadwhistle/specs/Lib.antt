@@ -1,2 +1,3 @@
 -- What crosses to other languages.
 pub mod Flat
+pub mod Part

@@ -3,7 +3,10 @@ ghost use mathlib.Core.Path.{_≡_};
 ghost use Rattle.engine.specs.Feed.{Fed};
 ghost use Rattle.engine.specs.Desk.{emptyDesk, openedOf, steppedOf};
 ghost use Rattle.alike.specs.Verdict.{judged};
+ghost use Rattle.printout.specs.Text.{text as textOf};
+ghost use Rattle.printout.specs.Printed.{PrintedAs};
 ghost use Rattle.meadwhistle.specs.Flat.{flatReply};
+ghost use Rattle.meadwhistle.specs.Part.{partOf};
 use engine::Desk;
 use engine::Ran;
 use engine::Reply;
@@ -15,6 +18,13 @@ pub struct FlatReply {
     pub status: u8,
     pub notices: u16,
     pub lines: u64,
+}
+
+// Where the part that is shown begins: file 0 is the expressions, 1 the pairs. It runs from `place` to that file's end.
+#[repr(C)]
+pub struct Part {
+    pub file: u8,
+    pub place: usize,
 }
 
 // Answers a whole feed.
@@ -76,4 +86,25 @@ pub extern "C" fn meadwhistle_judge(expressions: &[u8], pairs: &[u8]) -> u8
     ensures { λ r. ⌜ r ≡ judged (now (expressions .entry)) (now (pairs .entry)) .number ⌝ }
 {
     alike::judge(expressions, pairs)
+}
+
+// The faulty record of the same proposal; where it is accepted, the empty part at the pairs' end.
+#[no_mangle]
+pub extern "C" fn meadwhistle_shown(expressions: &[u8], pairs: &[u8]) -> Part
+    ensures { λ r. ⌜ r ≡ partOf (judged (now (expressions .entry)) (now (pairs .entry))) ⌝ }
+{
+    let v = alike::verdict_of(expressions, pairs);
+    let place = v.place;
+    if v.in_pairs {
+        return Part { file: 1, place };
+    }
+    Part { file: 0, place }
+}
+
+// The printer's text for an input, at the front of `output` where it fits; where it does not, no byte changes. Returns the text's length.
+#[no_mangle]
+pub extern "C" fn meadwhistle_print(input: &[u8], output: &mut [u8]) -> usize
+    ensures { λ r. ⌜ PrintedAs (textOf (now (input .entry))) (now (output .entry)) r (now (output .exit)) ⌝ }
+{
+    printout::print(input, output)
 }
