@@ -1,7 +1,6 @@
 -- P1 to P4 of document 01, from the bytes of their rule files, by computation: what the figures answer, and what the engine does on its nodes.
 use Prim.Native.Nat.{ℕ}
 use mathlib.Core.Path.{_≡_, refl, ap, ap₂, _∙_}
-use mathlib.Core.Bool.{true, false}
 use mathlib.Core.List.{List, [], _∷_, _++_}
 use lib.ListN.{replicate}
 use Rattle.par.specs.Expr.{join, size}

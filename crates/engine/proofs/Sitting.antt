@@ -6,6 +6,7 @@ use mathlib.Core.Bool.{true, false}
 use mathlib.Core.List.{List, [], _∷_, _++_}
 use native.Mathlib.Omega.{arith}
 use lib.ListN.{length, getD}
+use Rattle.par.specs.declared.Status.{Status}
 use Rattle.par.specs.Expr.{Expr, size}
 use Rattle.par.specs.Step.{notices as noticesOf, remainder}
 use Rattle.par.specs.Feed.{answer, after, Bytes}
@@ -69,6 +70,9 @@ module _ (d : Desk) (x : Expr) (feed : List ℕ) (s : Sitting d x feed) (a : ℕ
       (advanced (d .fixed) (d .sets) (d .root) (marked (d .done)) a (d .phases) 0)
   answered = advance-right (d .fixed) (d .sets) (d .root) a (s .root-low) (s .phases-wide) (s .stands) 0
 
+  abbrev status : Status
+  status = advanced (d .fixed) (d .sets) (d .root) (marked (d .done)) a (d .phases) 0 .status
+
   pub step-sits : Sitting (steppedOf d a .desk) x (feed ++ (a ∷ []))
   step-sits =
       rw moved (record {
@@ -77,7 +81,7 @@ module _ (d : Desk) (x : Expr) (feed : List ℕ) (s : Sitting d x feed) (a : ℕ
         nodes-wide = s .nodes-wide;
         sets-wide = s .sets-wide;
         phases-wide = answered .long;
-        stands = rw (after-more x feed a, marked-done (d .done) (advanced (d .fixed) (d .sets) (d .root) (marked (d .done)) a (d .phases) 0 .status)) (answered .stands);
+        stands = rw (after-more x feed a, marked-done (d .done) status) (answered .stands);
       })
 
   -- what the figures say of the event
@@ -104,5 +108,6 @@ module _ (d : Desk) (x : Expr) (feed : List ℕ) (s : Sitting d x feed) (goes : 
 
   -- and all its nodes take the event as they would with no test
   pub sitting-untested : (a sent : ℕ)
-      → advanced (d .fixed) (d .sets) (d .root) (marked (d .done)) a (d .phases) sent ≡ plain (d .fixed) (d .sets) a (suc (d .root)) 0 (d .root) (d .phases) sent
+      → advanced (d .fixed) (d .sets) (d .root) (marked (d .done)) a (d .phases) sent
+      ≡ plain (d .fixed) (d .sets) a (suc (d .root)) 0 (d .root) (d .phases) sent
   sitting-untested a sent = rw goes (stands-untested (s .root-low) (rw goes at (s .stands)) a sent)

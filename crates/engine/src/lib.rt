@@ -149,7 +149,8 @@ pub fn stepped(d: Desk, event: u8) -> Moved
 
 // Opens a rule on a desk, fresh, also where one is open. The number is that of the file, then 8; refused, the desk is as it was.
 pub fn open(d: &mut Desk, rule: &[u8]) -> u8
-    ensures { λ r. ⌜ (r ≡ openedOf (now (d .entry)) (now (rule .entry)) .number) × (now (d .exit) ≡ openedOf (now (d .entry)) (now (rule .entry)) .desk) ⌝ }
+    ensures { λ r. ⌜ (r ≡ openedOf (now (d .entry)) (now (rule .entry)) .number)
+        × (now (d .exit) ≡ openedOf (now (d .entry)) (now (rule .entry)) .desk) ⌝ }
 {
     let s = opened(*d, rule);
     *d = s.desk;
@@ -158,7 +159,8 @@ pub fn open(d: &mut Desk, rule: &[u8]) -> u8
 
 // Moves an open desk on by one event. 15 where no rule is open: then the desk is as it was.
 pub fn step(d: &mut Desk, event: u8) -> Reply
-    ensures { λ r. ⌜ (r ≡ steppedOf (now (d .entry)) event .reply) × (now (d .exit) ≡ steppedOf (now (d .entry)) event .desk) ⌝ }
+    ensures { λ r. ⌜ (r ≡ steppedOf (now (d .entry)) event .reply)
+        × (now (d .exit) ≡ steppedOf (now (d .entry)) event .desk) ⌝ }
 {
     move_on(
         d.is_open,

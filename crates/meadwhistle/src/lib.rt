@@ -51,11 +51,10 @@ pub extern "C" fn meadwhistle_desk_empty() -> Desk
 // Opens a rule on a desk, fresh; refused, the desk is as it was.
 #[no_mangle]
 pub extern "C" fn meadwhistle_desk_open(d: &mut Desk, rule: &[u8]) -> u8
-    ensures { λ r. ⌜ (r ≡ openedOf (now (d .entry)) (now (rule .entry)) .number) × (now (d .exit) ≡ openedOf (now (d .entry)) (now (rule .entry)) .desk) ⌝ }
+    ensures { λ r. ⌜ (r ≡ openedOf (now (d .entry)) (now (rule .entry)) .number)
+        × (now (d .exit) ≡ openedOf (now (d .entry)) (now (rule .entry)) .desk) ⌝ }
 {
-    let s = engine::opened(*d, rule);
-    *d = s.desk;
-    s.number
+    engine::open(d, rule)
 }
 
 fn flat(reply: Reply) -> FlatReply
@@ -74,7 +73,8 @@ fn flat(reply: Reply) -> FlatReply
 // Moves an open desk on by one event; refused, the desk is as it was.
 #[no_mangle]
 pub extern "C" fn meadwhistle_desk_step(d: &mut Desk, event: u8) -> FlatReply
-    ensures { λ r. ⌜ (r ≡ flatReply (steppedOf (now (d .entry)) event .reply)) × (now (d .exit) ≡ steppedOf (now (d .entry)) event .desk) ⌝ }
+    ensures { λ r. ⌜ (r ≡ flatReply (steppedOf (now (d .entry)) event .reply))
+        × (now (d .exit) ≡ steppedOf (now (d .entry)) event .desk) ⌝ }
 {
     let reply = engine::step(d, event);
     flat(reply)

@@ -6,7 +6,7 @@ use mathlib.Core.List.{List, [], _∷_, _++_, replicate}
 use lib.ListN.{length}
 use lib.Seq.{sets}
 use lib.Dec.{leb}
-use Rattle.engine.specs.Moves.{Made, advanced, over}
+use Rattle.engine.specs.Moves.{advanced, over}
 use Rattle.printout.specs.Text.{ruleWord, decimal, line}
 
 -- the text is written at the front where it fits; where it does not, no byte changes

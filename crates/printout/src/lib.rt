@@ -18,7 +18,8 @@ fn put_rule<'a>(
     output: &mut [u8],
 ) -> usize
     requires { ⌜ ((length (now fixed) ≡ 64) × (length (now sets) ≡ 64)) × ((root < 64) × (length (now events) ≤ 8192)) ⌝ }
-    ensures { λ r. ⌜ PrintedAs (ruleTextFrom (now (fixed .entry)) (now (sets .entry)) root (now (events .entry))) (now (output .entry)) r (now (output .exit)) ⌝ }
+    ensures { λ r. ⌜ PrintedAs (ruleTextFrom (now (fixed .entry)) (now (sets .entry)) root (now (events .entry))) (now (output .entry)) r
+        (now (output .exit)) ⌝ }
 {
     let size = (root + 1) as u8;
     let head = 6 + text::decimal_length(size);

@@ -1,7 +1,6 @@
 -- `engine::stepped` meets its contract: the reply, the phases and the mark of being done are all that a step alters.
 use mathlib.Core.Path.{ap₂}
 use borrow.Author.Needs.{needs}
-use Rattle.engine.specs.declared.Moved.{Moved}
 use Rattle.engine.proofs.Settling.{stored}
 use Rattle.engine.proofs.stepped.Statement.{statement}
 use Rattle.engine.proofs.stepped.Tie as tie
