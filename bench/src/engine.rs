@@ -21,8 +21,8 @@ pub struct Reply {
 #[repr(C)]
 #[derive(Clone, Copy)]
 pub struct Desk {
-    is_open: bool,
-    done: bool,
+    is_open: u8,
+    done: u8,
     root: usize,
     fixed: [u32; 64],
     sets: [u16; 64],
