@@ -1,12 +1,17 @@
-//! Times the engine beside other ways to do the same work, in one run. Each figure is the least of several runs; ratios matter, since the
-//! machine is what it is.
+//! Prints how fast the engine is beside other ways to do the same work, how its time grows, and the memory that it takes. Ratios come
+//! first: they say more than times, which are the machine's.
 
 mod arena;
 mod boxed;
 mod engine;
 mod feeds;
 mod proposals;
+mod running;
 mod stack;
+mod table;
+mod text;
+mod timing;
+mod ways;
 
 use std::time::Instant;
 
@@ -27,83 +32,10 @@ fn least(runs: usize, mut work: impl FnMut()) -> f64 {
         .fold(f64::INFINITY, f64::min)
 }
 
-fn put_answer(out: &mut [u8], notices: u16, status: u8) {
-    let [low, high] = notices.to_le_bytes();
-    out.copy_from_slice(&[7, 0, 32, 0, low, high, status]);
-}
-
-/// The swap rule over ten million events that keep it alive, answers written: ns an event.
-fn running(name: &str, busy: bool) {
-    let rule = swap_file();
-    let feed = feeds::alive(EVENTS, busy);
-    let mut answers = vec![0; 7 * EVENTS];
-    let run = least(RUNS, || {
-        assert_eq!(engine::run(&rule, &feed, &mut answers, 0).number, 0);
-    }) / EVENTS as f64;
-    let expected = answers.clone();
-
-    let tuned = least(RUNS, || {
-        let mut rule = arena::Arena::open(&rule);
-        for (event, out) in feed.iter().zip(answers.chunks_exact_mut(7)) {
-            let (status, notices) = rule.step(*event);
-            let status = match status {
-                arena::Status::Waiting => 0,
-                arena::Status::Success => 1,
-                arena::Status::Failure => 2,
-            };
-            put_answer(out, notices, status);
-        }
-    }) / EVENTS as f64;
-    assert!(
-        answers == expected,
-        "the tuned interpreter answers otherwise"
-    );
-
-    let step = least(RUNS, || {
-        let mut desk = engine::Desk::empty();
-        assert_eq!(desk.open(&rule), 0);
-        for (event, out) in feed.iter().zip(answers.chunks_exact_mut(7)) {
-            let reply = desk.step(*event);
-            put_answer(out, reply.notices, reply.status);
-        }
-    }) / EVENTS as f64;
-    assert!(answers == expected, "the desk answers otherwise");
-
-    let plain = least(1, || {
-        let mut rule = boxed::read(&rule);
-        for (event, out) in feed.iter().zip(answers.chunks_exact_mut(7)) {
-            let step = rule.step(*event);
-            rule = step.rest;
-            let status = match step.status {
-                boxed::Status::Waiting => 0,
-                boxed::Status::Success => 1,
-                boxed::Status::Failure => 2,
-            };
-            put_answer(out, step.notices, status);
-        }
-    }) / EVENTS as f64;
-    assert!(
-        answers == expected,
-        "the straightforward interpreter answers otherwise"
-    );
-
-    let few = &feed[..MILLION / 10];
-    let second = least(1, || {
-        second::feed::run(&rule, few, &mut answers[..7 * few.len()], 0);
-    }) / few.len() as f64;
-
-    println!("running, {name}: ns an event");
-    println!("  run / tuned interpreter      {:6.2}", run / tuned);
-    println!("  step on a desk / run         {:6.2}", step / run);
-    println!("  straightforward one / run    {:6.1}", plain / run);
-    println!("  second program / run         {:6.0}", second / run);
-    println!("  run {run:.1}, step {step:.1}, tuned {tuned:.1}, straightforward {plain:.1}, second program {second:.0}");
-}
-
 /// Whether a million events cost the same at the end of a long feed as at its start.
 fn growth() {
     let rule = swap_file();
-    let feed = feeds::alive(EVENTS, true);
+    let feed = feeds::STEADY.events(EVENTS);
     let mut desk = engine::Desk::empty();
     desk.open(&rule);
     let mut million = |part: &[u8]| {
@@ -162,7 +94,7 @@ fn judging() {
 
 fn memory() {
     let rule = swap_file();
-    let feed = feeds::alive(1000, true);
+    let feed = feeds::STEADY.events(1000);
     let mut answers = vec![0; 7000];
     let run = stack::used(|| {
         engine::run(&rule, &feed, &mut answers, 0);
@@ -182,8 +114,12 @@ fn memory() {
 }
 
 fn main() {
-    running("uniform bytes", false);
-    running("half of them o, a or c", true);
+    println!(
+        "Times are the least of {} rounds in which all ways take turns. A ratio below 1: the first is the faster.\n",
+        timing::ROUNDS
+    );
+    running::report();
+    println!();
     growth();
     judging();
     memory();
