@@ -5,7 +5,9 @@ mod arena;
 mod boxed;
 mod engine;
 mod feeds;
+mod growth;
 mod proposals;
+mod rules;
 mod running;
 mod stack;
 mod table;
@@ -17,8 +19,6 @@ use std::time::Instant;
 
 use second::examples::swap_file;
 
-const EVENTS: usize = 10_000_000;
-const MILLION: usize = 1_000_000;
 const RUNS: usize = 5;
 
 /// The least time of some runs, in nanoseconds.
@@ -30,27 +30,6 @@ fn least(runs: usize, mut work: impl FnMut()) -> f64 {
             start.elapsed().as_nanos() as f64
         })
         .fold(f64::INFINITY, f64::min)
-}
-
-/// Whether a million events cost the same at the end of a long feed as at its start.
-fn growth() {
-    let rule = swap_file();
-    let feed = feeds::STEADY.events(EVENTS);
-    let mut desk = engine::Desk::empty();
-    desk.open(&rule);
-    let mut million = |part: &[u8]| {
-        let start = Instant::now();
-        for event in part {
-            std::hint::black_box(desk.step(*event));
-        }
-        start.elapsed().as_nanos() as f64
-    };
-    let times: Vec<f64> = feed.chunks(MILLION).map(&mut million).collect();
-    let (first, last) = (times[0], times[times.len() - 1]);
-    println!(
-        "growth: the last million steps / the first {:.2}",
-        last / first
-    );
 }
 
 fn judging() {
@@ -120,7 +99,8 @@ fn main() {
     );
     running::report();
     println!();
-    growth();
+    growth::report();
+    println!();
     judging();
     memory();
 }
