@@ -1,7 +1,5 @@
 //! The engine, over its C interface.
 
-use std::mem::MaybeUninit;
-
 #[repr(C)]
 #[derive(Clone, Copy)]
 pub struct Ran {
@@ -76,10 +74,6 @@ impl Desk {
 
     pub fn step(&mut self, event: u8) -> Reply {
         unsafe { meadwhistle_desk_step(self, event) }
-    }
-
-    pub fn size() -> usize {
-        std::mem::size_of::<MaybeUninit<Desk>>()
     }
 }
 

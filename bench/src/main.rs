@@ -7,6 +7,7 @@ mod engine;
 mod feeds;
 mod growth;
 mod judging;
+mod memory;
 mod proposals;
 mod rules;
 mod running;
@@ -15,29 +16,6 @@ mod table;
 mod text;
 mod timing;
 mod ways;
-
-use second::examples::swap_file;
-
-fn memory() {
-    let rule = swap_file();
-    let feed = feeds::STEADY.events(1000);
-    let mut answers = vec![0; 7000];
-    let run = stack::used(|| {
-        engine::run(&rule, &feed, &mut answers, 0);
-    });
-    let mut desk = engine::Desk::empty();
-    let open = stack::used(|| {
-        desk.open(&rule);
-    });
-    let worst = proposals::eithers(false);
-    let judge = stack::used(|| {
-        engine::judge(&worst.expressions, &worst.pairs);
-    });
-    println!(
-        "memory, in bytes: a desk {}; stack of run {run}, of opening {open}, of judging {judge}",
-        engine::Desk::size()
-    );
-}
 
 fn main() {
     println!(
@@ -50,5 +28,5 @@ fn main() {
     println!();
     judging::report();
     println!();
-    memory();
+    memory::report();
 }
