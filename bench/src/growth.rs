@@ -1,14 +1,12 @@
 //! What grows with the rule's size, and whether anything grows with the feed's length.
 
-use std::time::Instant;
-
 use second::examples::swap_file;
 
 use crate::engine::Desk;
 use crate::feeds::STEADY;
 use crate::rules::{Family, EVENTS, FAMILIES, SIZES};
 use crate::text;
-use crate::timing::ROUNDS;
+use crate::timing::{taken, ROUNDS};
 use crate::ways::{self, Way, RUN, SECOND_RUN, STEP, STRAIGHTFORWARD, TABLE, TUNED};
 
 const LENGTHS: [usize; 5] = [1_000, 10_000, 100_000, 1_000_000, 10_000_000];
@@ -80,11 +78,11 @@ fn last_against_first() {
         let mut desk = Desk::empty();
         assert_eq!(desk.open(&swap_file()), 0);
         for (part, least) in feed.chunks_exact(MILLION).zip(&mut least) {
-            let start = Instant::now();
-            for event in part {
-                desk.step(*event);
-            }
-            *least = least.min(start.elapsed().as_nanos() as f64);
+            *least = least.min(taken(|| {
+                for event in part {
+                    desk.step(*event);
+                }
+            }));
         }
     }
     let ratio = least[least.len() - 1] / least[0];

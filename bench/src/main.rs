@@ -19,7 +19,7 @@ mod ways;
 
 fn main() {
     println!(
-        "Times are the least of {} rounds in which all ways take turns. A ratio below 1: the first is the faster.\n",
+        "Times are the processor's, the least of {} rounds in which all ways take turns. A ratio below 1: the first is the faster.\n",
         timing::ROUNDS
     );
     running::report();
