@@ -1,5 +1,5 @@
-//! Proposals to be judged: typical ones, and the worst that were found. These have every byte named and as many records and pairs as may
-//! be, so that on each of 256 events every record's remainder and every pair is looked up.
+//! Proposals to be judged: typical ones, and the worst that were found. These have every byte named, as many records as may be and as many
+//! pairs, or one less, so that on each of 256 events nearly every record's remainder and every pair is looked up.
 
 use second::construct::Construct::{Either, Event, Not, Notify, Silent};
 use second::expression_file::{self, Record, MOST_RECORDS};
