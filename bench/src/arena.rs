@@ -1,6 +1,8 @@
 //! A tuned interpreter of PAR. The remainder of a tree never holds two running copies of one part, so the
 //! tree is laid out once in an array and a step only changes a phase byte per node. No allocation per event.
 
+use second::status::Status::{self, *};
+
 #[derive(Clone, Copy, PartialEq, Eq)]
 enum Kind {
     Silent,
@@ -12,13 +14,6 @@ enum Kind {
     Notify,
     Try,
 }
-#[derive(Clone, Copy, PartialEq, Eq, PartialOrd, Ord, Debug)]
-pub enum Status {
-    Failure,
-    Waiting,
-    Success,
-}
-use Status::*;
 
 /// phase: Either 0 both, 1 only x, 2 only y; Then 0 in x, 1 in y; Try 0 both, 1 only x; else unused.
 #[derive(Clone, Copy)]

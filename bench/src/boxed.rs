@@ -1,6 +1,9 @@
 //! A straightforward interpreter of PAR: each event rewrites the tree into what remains of it.
 
-#[derive(Clone, PartialEq, Eq, Hash, Debug)]
+use second::status::Status::{self, *};
+use Expr::*;
+
+#[derive(Clone)]
 pub enum Expr {
     Silent,
     Event(u8),
@@ -11,14 +14,6 @@ pub enum Expr {
     Notify(Box<Expr>, u16),
     Try(Box<Expr>, Box<Expr>),
 }
-#[derive(Clone, Copy, PartialEq, Eq, PartialOrd, Ord, Debug)]
-pub enum Status {
-    Failure,
-    Waiting,
-    Success,
-}
-pub use Expr::*;
-use Status::*;
 
 pub struct Step {
     pub status: Status,

@@ -1,7 +1,5 @@
 //! The engine, over its C interface.
 
-use std::mem::MaybeUninit;
-
 #[repr(C)]
 #[derive(Clone, Copy)]
 pub struct Ran {
@@ -21,8 +19,8 @@ pub struct Reply {
 #[repr(C)]
 #[derive(Clone, Copy)]
 pub struct Desk {
-    is_open: bool,
-    done: bool,
+    is_open: u8,
+    done: u8,
     root: usize,
     fixed: [u32; 64],
     sets: [u16; 64],
@@ -76,10 +74,6 @@ impl Desk {
 
     pub fn step(&mut self, event: u8) -> Reply {
         unsafe { meadwhistle_desk_step(self, event) }
-    }
-
-    pub fn size() -> usize {
-        std::mem::size_of::<MaybeUninit<Desk>>()
     }
 }
 

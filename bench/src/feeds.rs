@@ -1,40 +1,66 @@
-//! Feeds for the swap rule, from a fixed seed.
+//! Feeds for the swap rule, each always the same.
 
-/// Splitmix.
-struct Numbers(u64);
+use second::random::Random;
 
-impl Numbers {
-    fn next(&mut self) -> u64 {
-        self.0 = self.0.wrapping_add(0x9e37_79b9_7f4a_7c15);
-        let mut z = self.0;
-        z = (z ^ (z >> 30)).wrapping_mul(0xbf58_476d_1ce4_e5b9);
-        z = (z ^ (z >> 27)).wrapping_mul(0x94d0_49bb_1331_11eb);
-        z ^ (z >> 31)
-    }
+pub struct Feed {
+    pub name: &'static str,
+    seed: u64,
+    /// Every second event, or so, is an o, an a or a c; the others are any bytes.
+    busy: bool,
+    /// How much of the feed is past, in hundredths, before a withdrawal may come inside an offer and end the rule.
+    guarded: usize,
 }
 
-/// Uniform bytes, or every second one an o, a or c; a withdrawal never comes inside an offer, so the rule stays alive throughout.
-pub fn alive(count: usize, busy: bool) -> Vec<u8> {
-    let mut numbers = Numbers(20242);
-    let mut state = 0;
-    let mut feed = Vec::with_capacity(count);
-    for _ in 0..count {
-        let number = numbers.next();
-        let mut event = if busy && number & 1 == 1 {
-            b"oac"[(number >> 8) as usize % 3]
-        } else {
-            (number >> 32) as u8
-        };
-        if state != 0 && event == b'w' {
-            event = b'x';
+pub const BUSY: Feed = Feed {
+    name: "half of them o, a or c, withdrawn at the end",
+    seed: 20240,
+    busy: true,
+    guarded: 99,
+};
+pub const ANY: Feed = Feed {
+    name: "any bytes, soon withdrawn",
+    seed: 20241,
+    busy: false,
+    guarded: 0,
+};
+pub const ALIVE: Feed = Feed {
+    name: "any bytes, never withdrawn",
+    seed: 20242,
+    busy: false,
+    guarded: 100,
+};
+/// For growth: nothing but the number of events past can make a difference.
+pub const STEADY: Feed = Feed {
+    name: "half of them o, a or c, never withdrawn",
+    seed: 20243,
+    busy: true,
+    guarded: 100,
+};
+
+impl Feed {
+    pub fn events(&self, count: usize) -> Vec<u8> {
+        let mut random = Random::seeded(self.seed);
+        let mut offered = false;
+        let mut accepted = false;
+        let mut events = Vec::with_capacity(count);
+        for past in 0..count {
+            let number = random.number();
+            let mut event = if self.busy && number & 1 == 1 {
+                b"oac"[(number >> 8) as usize % 3]
+            } else {
+                (number >> 32) as u8
+            };
+            if offered && event == b'w' && past * 100 < count * self.guarded {
+                event = b'x';
+            }
+            match event {
+                b'o' => offered = true,
+                b'a' => accepted = offered,
+                b'c' if accepted => (offered, accepted) = (false, false),
+                _ => {}
+            }
+            events.push(event);
         }
-        state = match (state, event) {
-            (0, b'o') => 1,
-            (1, b'a') => 2,
-            (2, b'c') => 0,
-            (other, _) => other,
-        };
-        feed.push(event);
+        events
     }
-    feed
 }

@@ -1,0 +1,90 @@
+//! What grows with the rule's size, and whether anything grows with the feed's length.
+
+use second::examples::swap_file;
+
+use crate::engine::Desk;
+use crate::feeds::STEADY;
+use crate::rules::{Family, EVENTS, FAMILIES, SIZES};
+use crate::text;
+use crate::timing::{taken, ROUNDS};
+use crate::ways::{self, Way, RUN, SECOND_RUN, STEP, STRAIGHTFORWARD, TABLE, TUNED};
+
+const LENGTHS: [usize; 5] = [1_000, 10_000, 100_000, 1_000_000, 10_000_000];
+const LONGEST: usize = LENGTHS[LENGTHS.len() - 1];
+const MILLION: usize = 1_000_000;
+
+pub fn report() {
+    println!("Growth with the rule's size, a column each: {EVENTS} events");
+    FAMILIES.iter().for_each(with_size);
+    println!(
+        "\nGrowth with the feed's length: the swap rule, {}",
+        STEADY.name
+    );
+    with_length();
+    last_against_first();
+}
+
+fn with_size(family: &Family) {
+    let ways = [RUN, STEP, TUNED, STRAIGHTFORWARD, SECOND_RUN];
+    let times = SIZES.map(|size| {
+        let (rule, feed) = (family.rule(size), family.feed(size));
+        assert!(stays_alive(&rule, &feed), "{}", family.name);
+        ways::times(ways, &rule, &feed)
+    });
+    println!();
+    text::line(family.name, &SIZES);
+    rows(&ways, &times);
+}
+
+/// A finished rule takes no work, which would hide the rule's size.
+fn stays_alive(rule: &[u8], feed: &[u8]) -> bool {
+    let mut desk = Desk::empty();
+    desk.open(rule) == 0 && feed.iter().all(|event| desk.step(*event).status == 0)
+}
+
+fn with_length() {
+    let ways = [RUN, STEP, TUNED, TABLE];
+    let feed = STEADY.events(LONGEST);
+    let times = LENGTHS.map(|length| ways::times(ways, &swap_file(), &feed[..length]));
+    println!();
+    text::line("events", &LENGTHS);
+    rows(&ways, &times);
+}
+
+/// A column for each time taken, a row for each ratio and then for each way. The first two ways are the engine's run and step.
+fn rows<const WAYS: usize>(ways: &[Way; WAYS], times: &[[f64; WAYS]]) {
+    let row = |label: String, value: &dyn Fn(&[f64; WAYS]) -> f64| {
+        let values: Vec<f64> = times.iter().map(value).collect();
+        text::figures(&label, &values);
+    };
+    for (which, way) in ways.iter().enumerate().skip(2) {
+        row(format!("  run / {}", way.name), &|times| {
+            times[0] / times[which]
+        });
+    }
+    row("  step / run".to_string(), &|times| times[1] / times[0]);
+    for (which, way) in ways.iter().enumerate().take(2) {
+        row(format!("  {}, ns an event", way.name), &|times| {
+            times[which]
+        });
+    }
+}
+
+/// Each million of a long feed on one desk.
+fn last_against_first() {
+    let feed = STEADY.events(LONGEST);
+    let mut least = [f64::INFINITY; LONGEST / MILLION];
+    for _ in 0..ROUNDS {
+        let mut desk = Desk::empty();
+        assert_eq!(desk.open(&swap_file()), 0);
+        for (part, least) in feed.chunks_exact(MILLION).zip(&mut least) {
+            *least = least.min(taken(|| {
+                for event in part {
+                    desk.step(*event);
+                }
+            }));
+        }
+    }
+    let ratio = least[least.len() - 1] / least[0];
+    text::figures("  the last million steps / the first", &[ratio]);
+}
