@@ -16,4 +16,3 @@ pub mod Judging
 pub mod Tails
 pub mod Readying
 pub mod AcceptedAlike
-pub mod Examples

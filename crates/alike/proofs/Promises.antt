@@ -27,8 +27,6 @@ use Rattle.alike.proofs.Filling
 use Rattle.alike.proofs.Judging
 use Rattle.alike.proofs.Tails
 use Rattle.alike.proofs.AcceptedAlike
-use Rattle.alike.proofs.Examples.{Proposals}
-use Rattle.alike.proofs.Examples
 
 -- ---- The verdict on any two files is what document 01 says, in its order, and nothing else is
 
@@ -100,8 +98,3 @@ pub filled-one : (ks xs ys : List ℕ) (n : ℕ) → Held ks xs ys n → (a : �
     → Filled (expressions ks xs ys) n a N S R n → Filled (expressions ks xs ys) n a N' S' R' n
     → (r : ℕ) → r < n → partAt N S R r ≡ partAt N' S' R' r
 filled-one ks xs ys n held = Filling.filled-one held
-
--- ---- P5 to P10 of document 01, on the bytes of their files
-
-pub proposals : Proposals
-proposals = Examples.proposals

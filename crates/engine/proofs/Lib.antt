@@ -1,5 +1,5 @@
 -- Promises restates the main theorems. Right: one event is what the figures say. Safe, Untested: no test for misfits fires. RuleNodes: the nodes of
--- a file mean its rule. Runs, Desks, Sitting, Histories, DeskRuns: the whole feed and the desk. Examples: P1 to P4. The others prove these and the code.
+-- a file mean its rule. Runs, Desks, Sitting, Histories, DeskRuns: the whole feed and the desk. The others prove these and the code.
 pub mod Promises
 pub mod Right
 pub mod Safe
@@ -10,7 +10,6 @@ pub mod Desks
 pub mod Sitting
 pub mod Histories
 pub mod DeskRuns
-pub mod Examples
 pub mod Tests
 pub mod Words
 pub mod Phases

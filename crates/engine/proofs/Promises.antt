@@ -4,13 +4,12 @@ use Prim.Native.Nat.{ℕ, suc, _+_, _*_, _≤_, _<_}
 use mathlib.Core.Path.{_≡_}
 use mathlib.Core.Logic.{_≢_}
 use mathlib.Core.List.{List, [], _∷_, _++_, map, List·Memᴰ}
-use lib.ListN.{length, take, drop, replicate}
+use lib.ListN.{length, take, drop}
 use lib.Seq.{sets}
 use Rattle.par.specs.Expr.{Expr, size}
 use Rattle.par.specs.Feed.{answer, answers, after, Bytes}
 use Rattle.par.proofs.Silence.{nothing}
 use Rattle.files.specs.Rule.{rule, ruleNumber}
-use Rattle.files.proofs.Swap.{swapBytes}
 use Rattle.engine.specs.declared.Desk.{Desk}
 use Rattle.engine.specs.declared.Reply.{Reply}
 use Rattle.engine.specs.declared.feed.Ran.{Ran}
@@ -31,8 +30,6 @@ use Rattle.engine.proofs.Sitting
 use Rattle.engine.proofs.Histories
 use Rattle.engine.proofs.DeskRuns.{replies}
 use Rattle.engine.proofs.DeskRuns
-use Rattle.engine.proofs.Examples.{o, a, c, w, oacoawc, swapAnswers, linesOn, supplierBytes, tryBytes}
-use Rattle.engine.proofs.Examples
 
 -- ---- One event is what the figures say: on nodes that mean e it gives e's status, lines and notices, and leaves nodes that mean what remains of e
 
@@ -124,28 +121,3 @@ step-lines = Sitting.step-lines
 
 pub reply-lines : (d : Desk) (a : ℕ) → steppedOf d a .reply .answer .lines ≤ 64
 reply-lines = Desks.reply-lines
-
--- ---- P1 to P4 of document 01, from the bytes of the rules' files
-
-pub P1 : answerBytes (answers (rule swapBytes) oacoawc) ≡ swapAnswers
-P1 = Examples.P1-figures
-
-pub P1-engine : fedBytes (nodesOf swapBytes .fixed) (nodesOf swapBytes .sets) (nodesOf swapBytes .root) oacoawc ≡ swapAnswers
-P1-engine = Examples.P1-engine
-
-pub P1-run : (r : Ran) (b : List ℕ) → Fed swapBytes oacoawc 1 (replicate 51 9) r b
-    → (r ≡ record { number = 0; written = 49 }) × (b ≡ 9 ∷ (swapAnswers ++ (9 ∷ [])))
-P1-run = Examples.P1-run
-
-pub P2 : linesOn (freshDesk swapBytes) (o ∷ a ∷ c ∷ []) ≡ 3 ∷ 6 ∷ 5 ∷ []
-P2 = Examples.P2
-
-pub P3 : answerBytes (answers (rule supplierBytes) (o ∷ a ∷ w ∷ []))
-    ≡ 7 ∷ 0 ∷ 32 ∷ 0 ∷ 0 ∷ 0 ∷ 0
-    ∷ 7 ∷ 0 ∷ 32 ∷ 0 ∷ 1 ∷ 0 ∷ 0
-    ∷ 7 ∷ 0 ∷ 32 ∷ 0 ∷ 0 ∷ 0 ∷ 2
-    ∷ []
-P3 = Examples.P3
-
-pub P4 : answerBytes (answers (rule tryBytes) (a ∷ [])) ≡ 7 ∷ 0 ∷ 32 ∷ 0 ∷ 0 ∷ 0 ∷ 1 ∷ []
-P4 = Examples.P4

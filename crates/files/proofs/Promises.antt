@@ -17,11 +17,11 @@ use Rattle.records.specs.Says.{Says}
 use Rattle.files.specs.Reading.{ExpressionBody, PairBody, expressionBody, pairBody, reading, readingPairs}
 use Rattle.files.specs.Says.{Accepted, TooMany, NoHeader, CutShort, NotListed, WrongLength, NotEarlier, SameAgain, NotThere}
 use Rattle.files.specs.Rule.{nodeIn, exprOf, rule, cappedSize, ruleNumber}
+use Rattle.files.specs.Swap.{swapBytes}
 use Rattle.files.proofs.Bodies
 use Rattle.files.proofs.Readings
 use Rattle.files.proofs.Accepted as accepted
 use Rattle.files.proofs.RuleNumbers
-use Rattle.files.proofs.Swap.{swapBytes}
 use Rattle.files.proofs.Swap
 
 -- ---- Every record's body gets one number, and the functions compute it

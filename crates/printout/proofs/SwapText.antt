@@ -7,7 +7,8 @@ use Rattle.par.specs.Expr.{size, join}
 use Rattle.par.specs.Step.{status, notices, remainder}
 use Rattle.records.specs.Fields.{wordAt}
 use Rattle.files.specs.Rule.{ruleNumber}
-use Rattle.files.proofs.Swap.{swapBytes, swap-reading, swap-rule}
+use Rattle.files.specs.Swap.{swapBytes}
+use Rattle.files.proofs.Swap.{swap-reading, swap-rule}
 use Rattle.printout.specs.Text.{lines, text}
 use Rattle.printout.proofs.Texts.{text-rule}
 

@@ -1,0 +1,3 @@
+-- Promises states the one theorem; Computing proves it.
+pub mod Promises
+pub mod Computing
