@@ -1,8 +1,10 @@
 //! What grows with the rule's size, and whether anything grows with the feed's length.
 
+use std::hint::black_box;
+
+use meadwhistle::{Answer, Desk, Status};
 use second::examples::swap_file;
 
-use crate::engine::Desk;
 use crate::feeds::STEADY;
 use crate::rules::{Family, EVENTS, FAMILIES, SIZES};
 use crate::text;
@@ -38,8 +40,12 @@ fn with_size(family: &Family) {
 
 /// A finished rule takes no work, which would hide the rule's size.
 fn stays_alive(rule: &[u8], feed: &[u8]) -> bool {
-    let mut desk = Desk::empty();
-    desk.open(rule) == 0 && feed.iter().all(|event| desk.step(*event).status == 0)
+    let mut desk = Desk::new();
+    let waiting = |answer: Answer| answer.status == Status::Waiting;
+    desk.open(rule).is_ok()
+        && feed
+            .iter()
+            .all(|event| desk.step(*event).is_ok_and(waiting))
 }
 
 fn with_length() {
@@ -75,12 +81,12 @@ fn last_against_first() {
     let feed = STEADY.events(LONGEST);
     let mut least = [f64::INFINITY; LONGEST / MILLION];
     for _ in 0..ROUNDS {
-        let mut desk = Desk::empty();
-        assert_eq!(desk.open(&swap_file()), 0);
+        let mut desk = Desk::new();
+        assert_eq!(desk.open(&swap_file()), Ok(()));
         for (part, least) in feed.chunks_exact(MILLION).zip(&mut least) {
             *least = least.min(taken(|| {
                 for event in part {
-                    desk.step(*event);
+                    let _ = black_box(desk.step(*event));
                 }
             }));
         }

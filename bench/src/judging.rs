@@ -3,7 +3,7 @@
 use std::hint::black_box;
 
 use crate::proposals::{eithers, nots, typical, Proposal};
-use crate::{engine, text, timing};
+use crate::{text, timing};
 
 const ACCEPTED: u8 = 0;
 const NOTICES_DIFFER: u8 = 10;
@@ -36,7 +36,8 @@ fn row(label: &str, number: u8, proposals: &[Proposal]) {
 }
 
 fn by_engine(proposal: &Proposal) -> u8 {
-    engine::judge(&proposal.expressions, &proposal.pairs)
+    let verdict = meadwhistle::judge(&proposal.expressions, &proposal.pairs);
+    verdict.map_or_else(|rejection| rejection.refusal().number(), |()| ACCEPTED)
 }
 
 fn by_second(proposal: &Proposal) -> u8 {

@@ -3,7 +3,6 @@
 
 mod arena;
 mod boxed;
-mod engine;
 mod feeds;
 mod growth;
 mod judging;

@@ -1,11 +1,13 @@
 //! The size of a desk, and the most stack that each call was seen to need.
 
+use std::hint::black_box;
+
+use meadwhistle::Desk;
 use second::examples::swap_file;
 use second::expression_file::{self, MOST_RECORDS};
 use second::feed::ANSWER_LENGTH;
 use second::generate::limits::many_notifies;
 
-use crate::engine::{self, Desk};
 use crate::proposals::{eithers, nots, typical};
 use crate::rules::{FAMILIES, LARGEST};
 use crate::{stack, text};
@@ -14,23 +16,23 @@ pub fn report() {
     let (mut run, mut open, mut step, mut judge) = (0, 0, 0, 0);
     for (rule, feed) in rules() {
         let mut answers = vec![0; ANSWER_LENGTH * feed.len()];
-        let mut desk = Desk::empty();
+        let mut desk = Desk::new();
         run = run.max(stack::used(|| {
-            engine::run(&rule, &feed, &mut answers, 0);
+            let _ = black_box(meadwhistle::run(&rule, &feed, &mut answers, 0));
         }));
         open = open.max(stack::used(|| {
-            desk.open(&rule);
+            let _ = black_box(desk.open(&rule));
         }));
         step = step.max(stack::used(|| {
             for event in &feed {
-                desk.step(*event);
+                let _ = black_box(desk.step(*event));
             }
         }));
     }
     let worst = [eithers(false), eithers(true), nots()];
     for proposal in typical().iter().chain(&worst) {
         judge = judge.max(stack::used(|| {
-            engine::judge(&proposal.expressions, &proposal.pairs);
+            let _ = black_box(meadwhistle::judge(&proposal.expressions, &proposal.pairs));
         }));
     }
     println!("Memory, in bytes\n");

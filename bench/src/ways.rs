@@ -3,11 +3,12 @@
 use std::hint::black_box;
 use std::mem;
 
+use meadwhistle::Desk;
 use second::feed::{ANSWER_KIND, ANSWER_LENGTH};
 
 use crate::arena::Arena;
 use crate::boxed::{self, Expr};
-use crate::{engine, table, timing};
+use crate::{table, timing};
 
 /// Answers a whole feed under a rule, an answer record an event.
 #[derive(Clone, Copy)]
@@ -82,16 +83,15 @@ pub fn times<const WAYS: usize>(ways: [Way; WAYS], rule: &[u8], feed: &[u8]) -> 
 }
 
 fn run(rule: &[u8], feed: &[u8], answers: &mut [u8]) {
-    let ran = engine::run(rule, feed, answers, 0);
-    assert_eq!((ran.number, ran.written), (0, answers.len()));
+    assert_eq!(meadwhistle::run(rule, feed, answers, 0), Ok(answers.len()));
 }
 
 fn step(rule: &[u8], feed: &[u8], answers: &mut [u8]) {
-    let mut desk = engine::Desk::empty();
-    assert_eq!(desk.open(rule), 0);
+    let mut desk = Desk::new();
+    assert_eq!(desk.open(rule), Ok(()));
     write_each(feed, answers, |event| {
-        let reply = desk.step(event);
-        (reply.notices, reply.status)
+        let answer = desk.step(event).expect("a rule is open");
+        (answer.notices.bits(), answer.status as u8)
     });
 }
 
