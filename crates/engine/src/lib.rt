@@ -13,7 +13,8 @@ use par::Answer;
 use par::Notices;
 use par::Status;
 
-// A place for one rule that takes its events one by one. Made by `empty`, changed by `open` and `step` alone.
+// A place for one rule that takes its events one by one. Made by `empty`, changed by `open` and `step` alone. Two marks, 0 for no and any other
+// byte for yes; the rule's nodes and notice sets, which stay from one opening to the next; and a phase for each node, which a step moves on.
 #[repr(C)]
 pub struct Desk {
     is_open: u8,
@@ -30,11 +31,13 @@ pub struct Reply {
     pub answer: Answer,
 }
 
+// What a step by value gives back.
 pub struct Moved {
     pub desk: Desk,
     pub reply: Reply,
 }
 
+// What an opening by value gives back.
 pub struct Begun {
     pub desk: Desk,
     pub number: u8,
