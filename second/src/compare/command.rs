@@ -32,10 +32,11 @@ pub fn compare(numbers: &[&str]) -> Result<Vec<u8>, String> {
     let counts = compare_all(&Meadwhistle, program.as_ref(), count as usize, seed)
         .map_err(|difference| difference.to_string())?;
     let line = format!(
-        "no difference in {} cases: run {}, desk {}, proposal {}, print {}, printer program {}; seed {seed}\n",
+        "no difference in {} cases: run {}, desk {}, found desk {}, proposal {}, print {}, printer program {}; seed {seed}\n",
         counts.total(),
         counts.run,
         counts.desk,
+        counts.found_desk,
         counts.proposal,
         counts.print,
         counts.program,

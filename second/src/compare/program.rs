@@ -2,8 +2,12 @@
 
 use std::ffi::{OsStr, OsString};
 use std::io::{Read, Write};
-use std::process::{Command, Stdio};
+use std::process::{ChildStdin, Command, Stdio};
 use std::thread;
+use std::time::Duration;
+
+/// From this length on, an input comes in two parts.
+pub const LONG_INPUT: usize = 4096;
 
 pub struct Program {
     path: OsString,
@@ -32,8 +36,7 @@ impl Program {
         let mut output = Vec::new();
         // Side by side: either may have to wait until the other has been taken up.
         let read = thread::scope(|scope| {
-            // It need not read an input that is too long to the end.
-            scope.spawn(move || stdin.map(|mut stdin| stdin.write_all(input)));
+            scope.spawn(move || stdin.map(|stdin| write(stdin, input)));
             stdout.map_or(Ok(0), |mut stdout| stdout.read_to_end(&mut output))
         });
         read.map_err(failed)?;
@@ -43,4 +46,21 @@ impl Program {
         }
         Ok(output)
     }
+}
+
+/// Long enough for the program to have read the first part in most cases.
+const BETWEEN_PARTS: Duration = Duration::from_millis(1);
+
+/// A program that takes what one read gives for the whole input shows it on one in two parts.
+fn write(mut stdin: ChildStdin, input: &[u8]) {
+    let first_length = match input.len() {
+        0..LONG_INPUT => 0,
+        length => length / 2,
+    };
+    let (first, second) = input.split_at(first_length);
+    // It need not read an input that is too long to the end, so that an error says nothing.
+    if !first.is_empty() && stdin.write_all(first).is_ok() {
+        thread::sleep(BETWEEN_PARTS);
+    }
+    stdin.write_all(second).ok();
 }
