@@ -29,7 +29,7 @@ pub mod program;
 pub mod small;
 
 /// What both are given: a case whose answer is settled, or a desk that holds any values.
-#[derive(Clone, Debug)]
+#[derive(Clone, Debug, PartialEq, Eq)]
 pub enum Input {
     Case(Case),
     FoundDesk(FoundDesk),
@@ -71,7 +71,20 @@ pub fn compare<E: Engine>(
     let mut comparison = Comparison::with(engine, program, seed);
     comparison.check_all(worked::all().into_iter().map(Input::Case), 1)?;
     comparison.check_all(found::filled().map(Input::FoundDesk), 1)?;
+    comparison.check_all(small::printer_inputs().map(Input::Case), 1)?;
     comparison.check_all(small::cases().map(Input::Case), PROGRAM_ONCE_IN_SMALL)?;
+    comparison.check_all(mix::inputs(count, seed), PROGRAM_ONCE_IN_RANDOM)?;
+    Ok(comparison.counts())
+}
+
+/// The random cases alone, up to the first difference.
+pub fn compare_random<E: Engine>(
+    engine: &E,
+    program: Option<&Program>,
+    count: usize,
+    seed: u64,
+) -> Result<Counts, Box<Difference>> {
+    let mut comparison = Comparison::with(engine, program, seed);
     comparison.check_all(mix::inputs(count, seed), PROGRAM_ONCE_IN_RANDOM)?;
     Ok(comparison.counts())
 }

@@ -266,9 +266,8 @@ fn worked_cases() -> impl Iterator<Item = Input> {
 /// The worked cases and the desks filled with one value are enough.
 #[test]
 fn an_engine_with_a_fault_differs() {
-    let inputs: Vec<Input> = worked_cases()
-        .chain(found::filled().map(Input::FoundDesk))
-        .collect();
+    let filled = found::filled().map(Input::FoundDesk);
+    let inputs: Vec<Input> = filled.chain(worked_cases()).collect();
     for fault in FAULTS {
         let engine = Itself::with(fault);
         let mut comparison = Comparison::with(&engine, None, 1);

@@ -11,14 +11,14 @@ use crate::random::Random;
 use crate::worked::at_random::openings_and_steps;
 use crate::worked::{steps, Call};
 
-#[derive(Clone, Debug)]
+#[derive(Clone, Debug, PartialEq, Eq)]
 pub struct FoundDesk {
     pub origin: Origin,
     pub calls: Vec<Call>,
 }
 
 /// How the desk came to hold what it holds.
-#[derive(Clone, Debug)]
+#[derive(Clone, Debug, PartialEq, Eq)]
 pub enum Origin {
     Filled(Box<Fields>),
     /// By calls on an empty desk, and then some bytes of its fields were changed.
@@ -29,7 +29,7 @@ pub enum Origin {
 }
 
 /// One byte, counted through the bytes of all fields.
-#[derive(Clone, Copy, Debug)]
+#[derive(Clone, Copy, Debug, PartialEq, Eq)]
 pub struct Change {
     pub place: usize,
     pub value: u8,
