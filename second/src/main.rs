@@ -19,6 +19,8 @@ print           read a printer input and print what the printer prints
 
 compare [COUNT [SEED]]
                 compare with the engine that is linked in by the feature `compare`
+compare-random COUNT SEED
+                the same on the random cases alone
 ";
 
 fn main() -> ExitCode {
@@ -31,7 +33,8 @@ fn main() -> ExitCode {
         ["worked-groups"] => Ok(worked_groups()),
         ["worked-answers"] => worked_answers(),
         ["print"] => whole_input().map(|input| printer::printed(&input).into_bytes()),
-        ["compare", ref numbers @ ..] => compare(numbers),
+        ["compare", ref numbers @ ..] => compare::compare(numbers),
+        ["compare-random", ref numbers @ ..] => compare::compare_random(numbers),
         _ => Err(USAGE.to_string()),
     };
     let written = output.and_then(|bytes| {
@@ -93,14 +96,18 @@ fn worked_answers() -> Result<Vec<u8>, String> {
 }
 
 #[cfg(feature = "compare")]
-fn compare(numbers: &[&str]) -> Result<Vec<u8>, String> {
-    second::compare::command::compare(numbers)
-}
+use second::compare::command as compare;
 
 #[cfg(not(feature = "compare"))]
-fn compare(_: &[&str]) -> Result<Vec<u8>, String> {
-    Err(
-        "this program was built without the feature `compare`: no engine is linked in\n"
-            .to_string(),
-    )
+mod compare {
+    const NOTHING_LINKED: &str =
+        "this program was built without the feature `compare`: no engine is linked in\n";
+
+    pub fn compare(_: &[&str]) -> Result<Vec<u8>, String> {
+        Err(NOTHING_LINKED.to_string())
+    }
+
+    pub fn compare_random(_: &[&str]) -> Result<Vec<u8>, String> {
+        Err(NOTHING_LINKED.to_string())
+    }
 }

@@ -2,7 +2,7 @@
 
 use std::collections::HashSet;
 
-use second::compare::{mix, small};
+use second::compare::{mix, small, Input};
 use second::expression_file::{self, Record};
 use second::generate::busy::{busy_rule, different_answers};
 use second::generate::equations::true_proposal;
@@ -76,16 +76,17 @@ fn every_small_rule_meets_every_small_feed() {
 }
 
 #[test]
-fn a_seed_gives_the_same_random_cases_of_every_kind() {
-    let cases: Vec<Case> = mix::cases(2000, 9).collect();
-    assert!(cases.iter().cloned().eq(mix::cases(2000, 9)));
-    assert!(!cases.iter().cloned().eq(mix::cases(2000, 10)));
-    let count = |is_kind: fn(&Case) -> bool| cases.iter().filter(|case| is_kind(case)).count();
-    assert!(count(|case| matches!(case, Case::Run { .. })) > 400);
-    assert!(count(|case| matches!(case, Case::Desk(_))) > 200);
-    assert!(count(|case| matches!(case, Case::Printer(_))) > 200);
+fn a_seed_gives_the_same_random_inputs_of_every_kind() {
+    let inputs: Vec<Input> = mix::inputs(2000, 9).collect();
+    assert!(inputs.iter().cloned().eq(mix::inputs(2000, 9)));
+    assert!(!inputs.iter().cloned().eq(mix::inputs(2000, 10)));
+    let count = |is_kind: fn(&Input) -> bool| inputs.iter().filter(|input| is_kind(input)).count();
+    assert!(count(|input| matches!(input, Input::Case(Case::Run { .. }))) > 400);
+    assert!(count(|input| matches!(input, Input::Case(Case::Desk(_)))) > 200);
+    assert!(count(|input| matches!(input, Input::Case(Case::Printer(_)))) > 200);
+    assert!(count(|input| matches!(input, Input::FoundDesk(_))) > 60);
     // Judging is slow.
-    let proposals = count(|case| matches!(case, Case::Proposal { .. }));
+    let proposals = count(|input| matches!(input, Input::Case(Case::Proposal { .. })));
     assert!(proposals > 100 && proposals < 400);
 }
 

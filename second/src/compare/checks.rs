@@ -1,17 +1,21 @@
-//! One case, given to both. An error says what differs.
+//! One case, given to both. An error says what differs: what this implementation says is expected,
+//! what the engine says is got.
 
 use std::fmt::Debug;
 use std::ops::Range;
 
 use crate::compare::engine::{Engine, Reply};
+use crate::compare::fields::Fields;
+use crate::compare::found::FoundDesk;
 use crate::compare::program::Program;
-use crate::desk::Desk;
+use crate::desk::{Desk, StepOutcome};
 use crate::feed;
 use crate::hex::hex;
 use crate::number::Number;
 use crate::printer;
 use crate::proposal;
 use crate::random::Random;
+use crate::status::Status;
 use crate::worked::Call;
 
 pub fn run<E: Engine>(
@@ -23,49 +27,122 @@ pub fn run<E: Engine>(
     place: usize,
 ) -> Result<(), String> {
     let before = Framed::filled(pattern, room);
-    let (mut of_second, mut of_engine) = (before.clone(), before.clone());
-    let outcome = feed::run(rule_file, events, of_second.buffer(), place);
-    let (number, written) = engine.run(rule_file, events, of_engine.buffer(), place);
+    let (mut expected, mut got) = (before.clone(), before.clone());
+    let outcome = feed::run(rule_file, events, expected.buffer(), place);
+    let (number, written) = engine.run(rule_file, events, got.buffer(), place);
     same("number", outcome.number.value(), number)?;
     same("bytes written", outcome.written, written)?;
-    before.same_after("the answer buffer", &of_second, &of_engine)
+    before.same_after("the answer buffer", &expected, &got)
 }
 
-/// A refused call leaves every byte of the desk as it was.
 pub fn desk<E: Engine>(engine: &E, calls: &[Call]) -> Result<(), String> {
     let mut of_second = Desk::empty();
     let mut of_engine = engine.empty_desk();
     for (index, call) in calls.iter().enumerate() {
-        let before = of_engine.clone();
-        let number = match call {
-            Call::Open(rule_file) => {
-                let number = of_second.open(rule_file);
-                let other = engine.open(&mut of_engine, rule_file);
-                same("number", number.value(), other).map(|()| number)
-            }
-            Call::Step(event) => {
-                let step = of_second.step(*event);
-                let reply = Reply {
-                    number: step.number.value(),
-                    notices: step.notices,
-                    status: step.status.byte(),
-                    lines: step.lines,
-                };
-                same("reply", reply, engine.step(&mut of_engine, *event)).map(|()| step.number)
-            }
-        };
-        number
-            .and_then(|number| match number {
-                Number::Accepted => Ok(()),
-                _ => same_bytes(
-                    "the desk, before and after a refused call",
-                    &engine.bytes(&before),
-                    &engine.bytes(&of_engine),
-                ),
-            })
-            .map_err(|what| format!("call {index} of the history (from 0): {what}"))?;
+        same_call(engine, &mut of_second, &mut of_engine, call)
+            .map_err(|what| in_history(index, &what))?;
     }
     Ok(())
+}
+
+/// What the desk was found with plays no part any more once a rule has been opened on it.
+pub fn found_desk<E: Engine>(engine: &E, found: &FoundDesk) -> Result<(), String> {
+    let mut of_engine = found.origin.desk(engine);
+    let mut opened: Option<Desk> = None;
+    for (index, call) in found.calls.iter().enumerate() {
+        let outcome = match (&mut opened, call) {
+            (Some(of_second), call) => same_call(engine, of_second, &mut of_engine, call),
+            (None, Call::Step(event)) => step_as_found(engine, &mut of_engine, *event),
+            (None, Call::Open(_)) => {
+                let mut of_second = Desk::empty();
+                let outcome = same_call(engine, &mut of_second, &mut of_engine, call);
+                if outcome == Ok(Number::Accepted) {
+                    opened = Some(of_second);
+                }
+                outcome
+            }
+        };
+        outcome.map_err(|what| in_history(index, &what))?;
+    }
+    Ok(())
+}
+
+fn in_history(index: usize, what: &str) -> String {
+    format!("call {index} of the history (from 0): {what}")
+}
+
+/// A refused call leaves every field of the desk as it was.
+fn same_call<E: Engine>(
+    engine: &E,
+    of_second: &mut Desk,
+    of_engine: &mut E::Desk,
+    call: &Call,
+) -> Result<Number, String> {
+    let before = engine.fields(of_engine);
+    let number = match call {
+        Call::Open(rule_file) => {
+            let number = of_second.open(rule_file);
+            same("number", number.value(), engine.open(of_engine, rule_file))?;
+            number
+        }
+        Call::Step(event) => {
+            let step = of_second.step(*event);
+            same("reply", reply(&step), engine.step(of_engine, *event))?;
+            step.number
+        }
+    };
+    if !number.is_accepted() {
+        unchanged("a refused call", &before, &engine.fields(of_engine))?;
+    }
+    Ok(number)
+}
+
+fn reply(step: &StepOutcome) -> Reply {
+    Reply {
+        number: step.number.value(),
+        notices: step.notices,
+        status: step.status.byte(),
+        lines: step.lines,
+    }
+}
+
+/// A step on a desk that holds any values: what an unfinished rule answers there is left open, but
+/// not that it is the same each time, nor which fields stay.
+fn step_as_found<E: Engine>(engine: &E, desk: &mut E::Desk, event: u8) -> Result<Number, String> {
+    let before = engine.fields(desk);
+    let mut copy = desk.clone();
+    let got = engine.step(desk, event);
+    let after = engine.fields(desk);
+    let quiet = |number: Number, lines| Reply {
+        number: number.value(),
+        notices: 0,
+        status: Status::Waiting.byte(),
+        lines,
+    };
+    if before.is_open == 0 {
+        same("reply", quiet(Number::NoRuleOpen, 0), got)?;
+        unchanged("a refused step", &before, &after)?;
+        return Ok(Number::NoRuleOpen);
+    }
+    if before.done != 0 {
+        same("reply", quiet(Number::Accepted, 1), got)?;
+        unchanged("a step of a finished rule", &before, &after)?;
+        return Ok(Number::Accepted);
+    }
+    same("number", Number::Accepted.value(), got.number)?;
+    let fixed = Fields {
+        done: before.done,
+        phases: before.phases,
+        ..after
+    };
+    unchanged("a step", &before, &fixed)?;
+    same(
+        "reply, on a copy of the desk",
+        got,
+        engine.step(&mut copy, event),
+    )?;
+    unchanged("the same step on a copy", &after, &engine.fields(&copy))?;
+    Ok(Number::Accepted)
 }
 
 pub fn proposal<E: Engine>(
@@ -87,21 +164,21 @@ pub fn print<E: Engine>(engine: &E, pattern: &mut Random, input: &[u8]) -> Resul
     let ample = text.len() + pattern.between(1, 40);
     for room in [text.len(), text.len() - 1, ample] {
         let before = Framed::filled(pattern, room);
-        let (mut of_second, mut of_engine) = (before.clone(), before.clone());
-        if let Some(front) = of_second.buffer().get_mut(..text.len()) {
+        let (mut expected, mut got) = (before.clone(), before.clone());
+        if let Some(front) = expected.buffer().get_mut(..text.len()) {
             front.copy_from_slice(&text);
         }
-        let length = engine.print(input, of_engine.buffer());
+        let length = engine.print(input, got.buffer());
         same("length of the text", text.len(), length)?;
-        before.same_after("the output buffer", &of_second, &of_engine)?;
+        before.same_after("the output buffer", &expected, &got)?;
     }
     Ok(())
 }
 
 pub fn program(program: &Program, input: &[u8]) -> Result<(), String> {
-    let output = program.printed(input)?;
-    let text = printer::printed(input).into_bytes();
-    same_bytes("the printer program's output", &text, &output)
+    let got = program.printed(input)?;
+    let expected = printer::printed(input).into_bytes();
+    same_bytes("the printer program's output", &expected, &got)
 }
 
 /// A buffer between margins, all filled at random: what is written past either end shows as well.
@@ -125,35 +202,42 @@ impl Framed {
         &mut self.bytes[self.buffer.clone()]
     }
 
-    fn same_after(&self, what: &str, of_second: &Framed, of_engine: &Framed) -> Result<(), String> {
+    fn same_after(&self, what: &str, expected: &Framed, got: &Framed) -> Result<(), String> {
         let what = format!("{what} (between margins of {MARGIN} bytes)");
-        same_bytes(&what, &of_second.bytes, &of_engine.bytes)
-            .map_err(|difference| format!("{difference}\nbefore {}", hex(&self.bytes)))
+        same_bytes(&what, &expected.bytes, &got.bytes)
+            .map_err(|difference| format!("{difference}\nbefore the call {}", hex(&self.bytes)))
     }
 }
 
-fn same<Value: PartialEq + Debug>(
-    what: &str,
-    of_second: Value,
-    of_engine: Value,
-) -> Result<(), String> {
-    if of_second == of_engine {
+fn same<Value: PartialEq + Debug>(what: &str, expected: Value, got: Value) -> Result<(), String> {
+    if expected == got {
         Ok(())
     } else {
-        Err(format!(
-            "{what}\nsecond {of_second:?}\nengine {of_engine:?}"
-        ))
+        Err(format!("{what}\nexpected {expected:?}\ngot {got:?}"))
     }
 }
 
-fn same_bytes(what: &str, of_second: &[u8], of_engine: &[u8]) -> Result<(), String> {
-    if of_second == of_engine {
+fn same_bytes(what: &str, expected: &[u8], got: &[u8]) -> Result<(), String> {
+    if expected == got {
         return Ok(());
     }
-    let pairs = of_second.iter().zip(of_engine);
+    let pairs = expected.iter().zip(got);
     let alike = pairs.take_while(|(one, other)| one == other).count();
-    let (of_second, of_engine) = (hex(of_second), hex(of_engine));
+    let (expected, got) = (hex(expected), hex(got));
     Err(format!(
-        "{what}, from byte {alike} on\nsecond {of_second}\nengine {of_engine}"
+        "{what}, from byte {alike} on\nexpected {expected}\ngot {got}"
     ))
+}
+
+/// Tells the first field that has changed.
+fn unchanged(by: &str, before: &Fields, after: &Fields) -> Result<(), String> {
+    for ((name, before), (_, after)) in before.by_name().into_iter().zip(after.by_name()) {
+        if before != after {
+            let (before, after) = (hex(&before), hex(&after));
+            return Err(format!(
+                "the desk's field {name} is changed by {by}\nbefore {before}\nafter {after}"
+            ));
+        }
+    }
+    Ok(())
 }

@@ -1,5 +1,7 @@
 //! What is compared with: an engine behind the calls it promises.
 
+use crate::compare::fields::Fields;
+
 /// What a step answers, as the engine says it: any values at all.
 #[derive(Clone, Copy, Debug, PartialEq, Eq)]
 pub struct Reply {
@@ -17,12 +19,14 @@ pub trait Engine {
 
     fn empty_desk(&self) -> Self::Desk;
 
+    /// A desk that holds these values, whether or not calls could have made it so.
+    fn desk_holding(&self, fields: &Fields) -> Self::Desk;
+
     fn open(&self, desk: &mut Self::Desk, rule: &[u8]) -> u8;
 
     fn step(&self, desk: &mut Self::Desk, event: u8) -> Reply;
 
-    /// Every byte of the memory that a desk takes.
-    fn bytes(&self, desk: &Self::Desk) -> Vec<u8>;
+    fn fields(&self, desk: &Self::Desk) -> Fields;
 
     fn judge(&self, expressions: &[u8], pairs: &[u8]) -> u8;
 

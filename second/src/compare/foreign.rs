@@ -1,27 +1,16 @@
 //! The engine behind the C header `meadwhistle.h`: its functions, each behind a safe one.
 
-use std::mem::size_of;
-
 use crate::compare::engine::{Engine, Reply};
+use crate::compare::fields::Fields;
 
-/// The header, name by name.
+/// The header, name by name. Its desk is [`Fields`].
 mod header {
+    use crate::compare::fields::Fields;
+
     #[repr(C)]
     pub struct Ran {
         pub number: u8,
         pub written: usize,
-    }
-
-    /// C's `bool` is taken as the byte it is.
-    #[repr(C)]
-    #[derive(Clone, Copy)]
-    pub struct Desk {
-        pub is_open: u8,
-        pub done: u8,
-        pub root: usize,
-        pub fixed: [u32; 64],
-        pub sets: [u16; 64],
-        pub phases: [u8; 64],
     }
 
     #[repr(C)]
@@ -49,11 +38,11 @@ mod header {
             place: usize,
         ) -> Ran;
 
-        pub fn meadwhistle_desk_empty() -> Desk;
+        pub fn meadwhistle_desk_empty() -> Fields;
 
-        pub fn meadwhistle_desk_open(desk: *mut Desk, rule: *const u8, rule_len: usize) -> u8;
+        pub fn meadwhistle_desk_open(desk: *mut Fields, rule: *const u8, rule_len: usize) -> u8;
 
-        pub fn meadwhistle_desk_step(desk: *mut Desk, event: u8) -> Reply;
+        pub fn meadwhistle_desk_step(desk: *mut Fields, event: u8) -> Reply;
 
         pub fn meadwhistle_judge(
             expressions: *const u8,
@@ -78,24 +67,14 @@ mod header {
     }
 }
 
-/// The memory of a desk, as fields and as bytes; every byte of it has a value.
-#[repr(C)]
-#[derive(Clone, Copy)]
-pub union DeskMemory {
-    desk: header::Desk,
-    bytes: [u8; size_of::<header::Desk>()],
-}
-
-/// The bytes that belong to no field hold this until a call changes them.
-const BETWEEN_FIELDS: u8 = 0x5a;
-
 /// The engine that is linked in.
 pub struct Meadwhistle;
 
 // In every call a slice is lent as the pointer and the length it has, for the call alone. The
-// pointer of an empty slice isn't null.
+// pointer of an empty slice isn't null. A desk may hold any values.
 impl Engine for Meadwhistle {
-    type Desk = DeskMemory;
+    /// On the heap, where a tool that watches memory sees what is written past its end.
+    type Desk = Box<Fields>;
 
     fn run(&self, rule: &[u8], events: &[u8], answers: &mut [u8], place: usize) -> (u8, usize) {
         // SAFETY: the three slices are as described; the one that is written overlaps no other.
@@ -113,30 +92,23 @@ impl Engine for Meadwhistle {
         (ran.number, ran.written)
     }
 
-    /// Field by field, so that the bytes between the fields have a value too.
-    fn empty_desk(&self) -> DeskMemory {
+    fn empty_desk(&self) -> Box<Fields> {
         // SAFETY: nothing is lent.
-        let empty = unsafe { header::meadwhistle_desk_empty() };
-        let mut memory = DeskMemory {
-            bytes: [BETWEEN_FIELDS; size_of::<header::Desk>()],
-        };
-        memory.desk.is_open = empty.is_open;
-        memory.desk.done = empty.done;
-        memory.desk.root = empty.root;
-        memory.desk.fixed = empty.fixed;
-        memory.desk.sets = empty.sets;
-        memory.desk.phases = empty.phases;
-        memory
+        Box::new(unsafe { header::meadwhistle_desk_empty() })
     }
 
-    fn open(&self, desk: &mut DeskMemory, rule: &[u8]) -> u8 {
-        // SAFETY: the desk was made empty and changed by calls alone; the slice is as described.
-        unsafe { header::meadwhistle_desk_open(&raw mut desk.desk, rule.as_ptr(), rule.len()) }
+    fn desk_holding(&self, fields: &Fields) -> Box<Fields> {
+        Box::new(*fields)
     }
 
-    fn step(&self, desk: &mut DeskMemory, event: u8) -> Reply {
-        // SAFETY: the desk was made empty and changed by calls alone.
-        let reply = unsafe { header::meadwhistle_desk_step(&raw mut desk.desk, event) };
+    fn open(&self, desk: &mut Box<Fields>, rule: &[u8]) -> u8 {
+        // SAFETY: the desk and the slice are as described and don't overlap.
+        unsafe { header::meadwhistle_desk_open(&raw mut **desk, rule.as_ptr(), rule.len()) }
+    }
+
+    fn step(&self, desk: &mut Box<Fields>, event: u8) -> Reply {
+        // SAFETY: the desk is as described.
+        let reply = unsafe { header::meadwhistle_desk_step(&raw mut **desk, event) };
         Reply {
             number: reply.number,
             notices: reply.notices,
@@ -145,9 +117,8 @@ impl Engine for Meadwhistle {
         }
     }
 
-    fn bytes(&self, desk: &DeskMemory) -> Vec<u8> {
-        // SAFETY: every byte was given a value when the memory was made.
-        unsafe { desk.bytes.to_vec() }
+    fn fields(&self, desk: &Box<Fields>) -> Fields {
+        **desk
     }
 
     fn judge(&self, expressions: &[u8], pairs: &[u8]) -> u8 {

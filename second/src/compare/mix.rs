@@ -1,9 +1,11 @@
 //! Random cases, most of them cheap.
 
+use crate::compare::found;
 use crate::compare::large::{
     full_proposal, longest_input, many_pairs, many_records_judged, many_records_on_a_feed,
     many_records_printed, record_met_again,
 };
+use crate::compare::Input;
 use crate::expression_file::{self, Record};
 use crate::generate::feeds::{events_for, random_feed};
 use crate::generate::limits::past_a_power_of_two;
@@ -17,7 +19,7 @@ use crate::worked::Case;
 
 type Maker = fn(&mut Random) -> Case;
 
-/// How often each comes, beside the others.
+/// How often each case comes, beside the others.
 ///
 /// Judging takes milliseconds where running takes microseconds, and the last seven take longest.
 const MIX: [(usize, Maker); 21] = [
@@ -44,9 +46,18 @@ const MIX: [(usize, Maker); 21] = [
     (2, full_proposal),
 ];
 
-pub fn cases(count: usize, seed: u64) -> impl Iterator<Item = Case> {
+/// How many inputs there are to one desk that holds any values.
+const FOUND_DESK_ONCE_IN: usize = 16;
+
+pub fn inputs(count: usize, seed: u64) -> impl Iterator<Item = Input> {
     let mut random = Random::seeded(seed);
-    (0..count).map(move |_| choose(&mut random)(&mut random))
+    (0..count).map(move |_| {
+        if random.once_in(FOUND_DESK_ONCE_IN) {
+            Input::FoundDesk(found::at_random(&mut random))
+        } else {
+            Input::Case(choose(&mut random)(&mut random))
+        }
+    })
 }
 
 fn choose(random: &mut Random) -> Maker {

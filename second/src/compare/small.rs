@@ -12,6 +12,7 @@ use crate::tree::build::{either, event, not, notify, repeat, silent, then, try_u
 use crate::tree::Tree;
 use crate::worked::{steps, Call, Case};
 
+/// All but the printer inputs of [`printer_inputs`].
 pub fn cases() -> impl Iterator<Item = Case> {
     rooms_and_places()
         .chain(byte_strings().flat_map(|bytes| as_every_file(&bytes)))
@@ -38,12 +39,16 @@ pub fn byte_strings() -> impl Iterator<Item = Vec<u8>> {
     std::iter::once(vec![]).chain(one).chain(two)
 }
 
-/// As a rule file in every call that reads one, as a pair file and as a printer input.
+/// As a whole printer input.
+pub fn printer_inputs() -> impl Iterator<Item = Case> {
+    byte_strings().map(Case::Printer)
+}
+
+/// As a rule file in every call that reads one, and as a pair file.
 fn as_every_file(bytes: &[u8]) -> Vec<Case> {
     let small = expression_file::write(&[Event(b'a'), Not(0), Silent]);
     let mut cases = as_rule_file(bytes);
     cases.push(Case::proposal(&small, bytes));
-    cases.push(Case::Printer(bytes.to_vec()));
     cases
 }
 

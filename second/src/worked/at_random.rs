@@ -50,8 +50,12 @@ pub fn feed_for_a_damaged_rule(random: &mut Random) -> Case {
     Case::run(&rule_file, &feed.events, feed.buffer.len(), feed.place)
 }
 
-/// Openings, one in four of them damaged, and steps, which now and then come first.
 pub fn history(random: &mut Random) -> Case {
+    Case::Desk(openings_and_steps(random))
+}
+
+/// Openings, one in four of them damaged, and steps, which now and then come first.
+pub fn openings_and_steps(random: &mut Random) -> Vec<Call> {
     let mut calls = Vec::new();
     let mut open_rule: Vec<Record> = Vec::new();
     if random.once_in(3) {
@@ -70,7 +74,7 @@ pub fn history(random: &mut Random) -> Case {
         let count = random.below(14);
         calls.extend(steps(&events_for(random, &open_rule, count)));
     }
-    Case::Desk(calls)
+    calls
 }
 
 /// A rule that goes on answering, moved on through as many events, run, or printed.
