@@ -2,6 +2,9 @@
 
 use meadwhistle::Refusal;
 
+const README: &str = include_str!("../../../README.md");
+const HEADER: &str = include_str!("../../../include/meadwhistle.h");
+
 #[test]
 fn every_number_but_0_is_a_refusal_that_keeps_it() {
     assert_eq!(Refusal::from_number(0), None);
@@ -14,9 +17,28 @@ fn every_number_but_0_is_a_refusal_that_keeps_it() {
 }
 
 #[test]
-fn a_refusal_reads_as_its_row_of_the_table() {
-    let text = |number| Refusal::from_number(number).unwrap().to_string();
-    assert_eq!(text(5), "x or y isn't an earlier record");
-    assert_eq!(text(13), "the remainders are neither one record nor listed");
-    assert_eq!(text(26), "refusal 26, for which there is no text here");
+fn a_refusal_reads_as_its_row_of_the_readmes_table() {
+    for number in 1..=17 {
+        let row = format!("| {number} | ");
+        let row = README.lines().find_map(|line| line.strip_prefix(&row));
+        let words = row.unwrap().trim_end_matches(" |");
+        // What stands in brackets is a remark.
+        let text = words.split(" (").next().unwrap();
+        assert_eq!(Refusal::from_number(number).unwrap().to_string(), text);
+    }
+    let unlisted = Refusal::from_number(26).unwrap();
+    assert_eq!(
+        unlisted.to_string(),
+        "refusal 26, for which there is no text here"
+    );
+}
+
+#[test]
+fn the_header_lists_the_same_texts() {
+    let words = HEADER.split_whitespace().filter(|word| *word != "*");
+    let header = words.collect::<Vec<&str>>().join(" ");
+    for number in 1..=17 {
+        let listed = format!("; {number} {}", Refusal::from_number(number).unwrap());
+        assert!(header.contains(&listed), "not in the header: {listed}");
+    }
 }
