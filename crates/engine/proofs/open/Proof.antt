@@ -51,6 +51,7 @@ use Rattle.engine.proofs.Desk as T
 use Rattle.engine.proofs.Desk.Laws as T′
 use Rattle.engine.proofs.Begun as Bg
 use Rattle.engine.proofs.Begun.Laws as Bg′
+use Rattle.engine.proofs.DeskParts.{deskV}
 use Rattle.engine.proofs.opened as work
 use Rattle.engine.proofs.opened.Symbol as work-def
 use Rattle.engine.proofs.opened.Symbol.{name as #engine·opened}
@@ -65,10 +66,6 @@ Arg = RefT Desk × (RefT (List ℕ) × Unit {0})
 
 abbrev stayed : Stays (f.ended .signature .params) (f.ended .kept)
 stayed = (stay-ref (0 ∷ []) tt (plain (λ _. T.the-row)), (stay-none-slice (1 ∷ []) tt (plain (λ _. u8)) yes, tt))
-
--- machine values of a desk
-abbrev deskV : Desk → List Val
-deskV = LL.vals T.the-type T′.the-laws
 
 -- of what `opened` returned, each part's relation
 desk-is : (r : Begun) {vs : List Val} → Is Bg.the-row r vs → Is T.the-row (r .desk) (deskV (r .desk))
