@@ -11,6 +11,7 @@ pub mod Agree
 pub mod LikeSwapped
 pub mod LikeEquations
 pub mod LikeClosed
+pub mod LikeMoved
 pub mod Measures
 pub mod Growth
 pub mod Weight

@@ -8,11 +8,13 @@ use Rattle.par.specs.declared.Status.the-variants.{Waiting}
 use Rattle.par.specs.declared.Node.{Node}
 use Rattle.par.specs.Status.{higher, lower, tried, rank}
 use Rattle.par.specs.Expr.{Expr, join, size}
-use Rattle.par.specs.Expr.{Expr.silent, Expr.not, Expr.either, Expr.then, Expr.repeat, Expr.try}
+use Rattle.par.specs.Expr.{Expr.silent, Expr.not, Expr.either, Expr.then, Expr.repeat, Expr.notify, Expr.try}
 use Rattle.par.specs.Figures.{Completes, Becomes, Sends, Completes.αSel}
 use Rattle.par.specs.Step.{status, notices, remainder, lines, made}
 use Rattle.par.specs.Feed.{answers, after}
 use Rattle.par.specs.Like.{Like, Swapped, Closed}
+use Rattle.par.specs.Moving.{Moved}
+use Rattle.par.specs.Moving.{Moved.over-notify, Moved.of-none, Moved.over-then, Moved.over-either, Moved.over-try, Moved.over-repeat}
 use Rattle.par.specs.Throughout.{Unnamed, Fits}
 use Rattle.par.specs.Records.{expr, File}
 use Rattle.par.proofs.Order
@@ -25,6 +27,7 @@ use Rattle.par.proofs.Silence
 use Rattle.par.proofs.LikeSwapped
 use Rattle.par.proofs.LikeEquations
 use Rattle.par.proofs.LikeClosed
+use Rattle.par.proofs.LikeMoved.{moved-like}
 use Rattle.par.proofs.Growth
 use Rattle.par.proofs.Weight
 use Rattle.par.proofs.Throughout
@@ -124,6 +127,36 @@ repeat-once = LikeEquations.repeat-once
 
 pub closed-like : (pairs : List (Expr × Expr)) → Closed (λ x y. List·Memᴰ (x, y) pairs) → (x y : Expr) → List·Memᴰ (x, y) pairs → Like x y
 closed-like pairs = LikeClosed.closed-like (λ x y. List·Memᴰ (x, y) pairs)
+
+-- ---- A notice moved inwards or outwards
+
+-- notify of notify is notify of the joined sets
+pub notify-notify : (x : Expr) (A B : ℕ) → Like (notify (notify x A) B) (notify x (join A B))
+notify-notify x A B = moved-like over-notify
+
+-- an empty set changes nothing
+pub notify-none : (x : Expr) → Like (notify x 0) x
+notify-none x = moved-like of-none
+
+-- notify over "x then y" is x then notify y
+pub notify-then : (x y : Expr) (A : ℕ) → Like (notify (then x y) A) (then x (notify y A))
+notify-then x y A = moved-like over-then
+
+-- over either it goes to both parts
+pub notify-either : (x y : Expr) (A : ℕ) → Like (notify (either x y) A) (either (notify x A) (notify y A))
+notify-either x y A = moved-like over-either
+
+-- over try it goes to the try part
+pub notify-try : (x y : Expr) (A : ℕ) → Like (notify (try x y) A) (try (notify x A) y)
+notify-try x y A = moved-like over-try
+
+-- over repeat it may be dropped
+pub notify-repeat : (x : Expr) (A : ℕ) → Like (notify (repeat x) A) (repeat x)
+notify-repeat x A = moved-like over-repeat
+
+-- each of them inside a larger rule, at one spot or several
+pub moved-anywhere : {x y : Expr} → Moved x y → {u v : Expr} → Swapped x y u v → Like u v
+moved-anywhere m = swapped-like (moved-like m)
 
 -- ---- No rule outgrows its bounds, on any feed
 

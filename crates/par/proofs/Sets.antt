@@ -47,3 +47,12 @@ join-none A = or-zero-r A
 pub none-join : (A : ℕ) → join 0 A ≡ A
 unfolding join
 none-join A = or-zero-l A
+
+-- a set joined to a union is joined to its first part, or to both parts
+pub join-out : (o p A : ℕ) → join (join o p) A ≡ join (join o A) p
+join-out o p A = sym (join-assoc o p A) ∙ ap (join o) (join-comm p A) ∙ join-assoc o A p
+
+pub join-both : (o p A : ℕ) → join (join o p) A ≡ join (join o A) (join p A)
+join-both o p A =
+    ap (join (join o p)) (sym (join-self A)) ∙ join-assoc (join o p) A A
+    ∙ ap (λ (n : ℕ). join n A) (join-out o p A) ∙ sym (join-assoc (join o A) p A)

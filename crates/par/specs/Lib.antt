@@ -5,5 +5,6 @@ pub mod Figures
 pub mod Step
 pub mod Feed
 pub mod Like
+pub mod Moving
 pub mod Throughout
 pub mod Records
