@@ -1,5 +1,5 @@
--- Moving a notice changes no answer: `moved-like`. The pairs that the moves make are closed: at each event notices and statuses are
--- equal by the tables, and what remains of the two sides is equal, or the same move again.
+-- Moving a notice changes no notice sent and no status: `moved-like`. The pairs that the moves make are closed: at each event notices and
+-- statuses are equal by the tables, and what remains of the two sides is equal, or the same move again.
 use Prim.Native.Nat.{ℕ}
 use mathlib.Core.Path.{_≡_, refl, sym, subst}
 use mathlib.Core.Logic.{_⊎_, inl, inr}
