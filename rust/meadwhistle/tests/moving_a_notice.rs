@@ -1,8 +1,12 @@
-//! The laws of moving a notice, a proposal each. It is accepted; with the mistake that looks right in the law's place it is refused.
+//! The laws of moving a notice, a proposal each: it is accepted, and with the mistake that looks right in the law's place it is refused.
+//! And how the bundled proposal, in which the swap rule's notice is moved, is made.
 
+mod files;
+
+use files::{pair, record};
 use meadwhistle::{judge, Refusal};
 
-/// An expression file, and the number of each record as it is added.
+/// An expression file. Adding a record gives its number.
 #[derive(Default)]
 struct Expressions {
     bytes: Vec<u8>,
@@ -11,10 +15,13 @@ struct Expressions {
 
 impl Expressions {
     fn add(&mut self, kind: u8, body: &[u8]) -> u8 {
-        self.bytes.extend([4 + body.len() as u8, 0, kind, 0]);
-        self.bytes.extend(body);
+        self.bytes.extend(record(kind, body));
         self.count += 1;
         self.count - 1
+    }
+
+    fn silent(&mut self) -> u8 {
+        self.add(1, &[])
     }
 
     fn event(&mut self, event: u8) -> u8 {
@@ -37,62 +44,93 @@ impl Expressions {
         self.add(7, &[x, 0, set, 0])
     }
 
-    fn attempt(&mut self, x: u8, unless: u8) -> u8 {
-        self.add(8, &[x, 0, unless, 0])
+    fn try_unless(&mut self, x: u8, y: u8) -> u8 {
+        self.add(8, &[x, 0, y, 0])
     }
-}
-
-fn pair(left: u8, right: u8) -> [u8; 8] {
-    [8, 0, 16, 0, left, 0, right, 0]
 }
 
 #[test]
 fn each_move_is_accepted_and_its_mistake_refused() {
     let mut file = Expressions::default();
-    file.add(1, &[]);
+    file.silent();
     // the lowest events, so that no other is looked at before the two sides differ
     let (a, b) = (file.event(0), file.event(1));
-    let (told_a, told_b, other_a) = (file.notify(a, 1), file.notify(b, 1), file.notify(a, 2));
+    let (told_a, told_b) = (file.notify(a, 1), file.notify(b, 1));
+    let (then, either, tried) = (file.then(a, b), file.either(a, b), file.try_unless(a, b));
+    let repeat = file.repeat(a);
+    let told_repeat = file.notify(repeat, 1);
 
-    let twice = (file.notify(told_a, 2), file.notify(a, 3), other_a);
-    let none = (a, file.notify(a, 0), told_a);
-    let then = file.then(a, b);
-    let then = (
-        file.notify(then, 1),
-        file.then(a, told_b),
-        file.then(told_a, b),
-    );
-    let either = file.either(a, b);
-    let either = (
-        file.notify(either, 1),
-        file.either(told_a, told_b),
-        file.either(told_a, b),
-    );
-    let attempt = file.attempt(a, b);
-    let attempt = (
-        file.notify(attempt, 1),
-        file.attempt(told_a, b),
-        file.attempt(told_a, told_b),
-    );
-    let over = file.repeat(a);
-    let under_way = file.then(a, over);
-    let repeat = (file.notify(over, 1), over, file.repeat(told_a));
-    // what a repeat and its notice become at an event that isn't the body's
-    let becomes = pair(file.notify(under_way, 1), under_way);
-
+    // the two sides of a law, and the mistake in place of the second
     let laws = [
-        ("notify of notify", twice),
-        ("an empty set", none),
-        ("over then", then),
-        ("over either", either),
-        ("over try", attempt),
-        ("over repeat", repeat),
+        (file.notify(told_a, 2), file.notify(a, 3), file.notify(a, 2)),
+        (a, file.notify(a, 0), told_a),
+        (
+            file.notify(then, 1),
+            file.then(a, told_b),
+            file.then(told_a, b),
+        ),
+        (
+            file.notify(either, 1),
+            file.either(told_a, told_b),
+            file.either(told_a, b),
+        ),
+        (
+            file.notify(tried, 1),
+            file.try_unless(told_a, b),
+            file.try_unless(told_a, told_b),
+        ),
+        (told_repeat, repeat, file.repeat(told_a)),
     ];
-    for (law, (rule, moved, mistake)) in laws {
-        let pairs = [pair(rule, moved), becomes, pair(repeat.0, repeat.1)].concat();
-        assert!(judge(&file.bytes, &pairs).is_ok(), "{law}");
-        let pairs = pair(rule, mistake);
-        let refusal = judge(&file.bytes, &pairs).err().map(Refusal::from);
-        assert_eq!(refusal, Some(Refusal::NoticesDiffer), "{law}");
+    // what a repeat becomes at an event that isn't its body's; at its body's event that is a repeat again
+    let under_way = file.then(a, repeat);
+    let becomes = [
+        pair(file.notify(under_way, 1), under_way),
+        pair(told_repeat, repeat),
+    ]
+    .concat();
+
+    for (law, (rule, moved, mistake)) in laws.into_iter().enumerate() {
+        let proposal = [pair(rule, moved), becomes.clone()].concat();
+        assert!(judge(&file.bytes, &proposal).is_ok(), "law {law}");
+        let proposal = [pair(rule, mistake), becomes.clone()].concat();
+        let refusal = judge(&file.bytes, &proposal).err().map(Refusal::from);
+        assert_eq!(refusal, Some(Refusal::NoticesDiffer), "law {law}");
     }
+}
+
+/// `repeat (o then try x unless w)`: the try, what is repeated, and the whole.
+fn swap(file: &mut Expressions, o: u8, x: u8, w: u8) -> (u8, u8, u8) {
+    let tried = file.try_unless(x, w);
+    let round = file.then(o, tried);
+    (tried, round, file.repeat(round))
+}
+
+#[test]
+fn the_bundled_proposal_is_the_swap_rule_in_its_two_forms() {
+    let mut file = Expressions::default();
+    let [o, a, c, w] = [b'o', b'a', b'c', b'w'].map(|event| file.event(event));
+    let both = file.then(a, c);
+    let told = file.notify(both, 3);
+    let (tried, round, rule) = swap(&mut file, o, told, w);
+    assert_eq!(file.bytes, include_bytes!("../../../examples/swap.rule"));
+
+    let told_c = file.notify(c, 3);
+    let moved = file.then(a, told_c);
+    let (moved_tried, moved_round, moved_rule) = swap(&mut file, o, moved, w);
+    let mut pairs = pair(rule, moved_rule);
+    // before the offer, after it, and after the acceptance, where only what is repeated still differs
+    for (now, moved_now) in [(round, moved_round), (tried, moved_tried)] {
+        pairs.extend(pair(file.then(now, rule), file.then(moved_now, moved_rule)));
+    }
+    let accepted = file.try_unless(told_c, w);
+    pairs.extend(pair(
+        file.then(accepted, rule),
+        file.then(accepted, moved_rule),
+    ));
+    file.silent();
+    assert_eq!(
+        file.bytes,
+        include_bytes!("../../../examples/moved.expressions")
+    );
+    assert_eq!(pairs, include_bytes!("../../../examples/moved.pairs"));
 }

@@ -1,5 +1,8 @@
 //! The engine's worked examples, and what each call leaves alone, through the crate.
 
+mod files;
+
+use files::{pair, record};
 use meadwhistle::{judge, print, run, Desk, Record, Refusal, Shown, Status};
 
 const SWAP: &[u8] = include_bytes!("../../../examples/swap.rule");
@@ -20,14 +23,6 @@ fn answers(desk: &mut Desk, events: &[u8]) -> Vec<(u16, Status, u64)> {
         (answer.notices.bits(), answer.status, answer.lines)
     };
     events.iter().map(answer).collect()
-}
-
-fn event_record(event: u8) -> [u8; 5] {
-    [5, 0, 2, 0, event]
-}
-
-fn pair(left: u8, right: u8) -> [u8; 8] {
-    [8, 0, 16, 0, left, 0, right, 0]
 }
 
 #[test]
@@ -113,19 +108,20 @@ fn a_record_is_read_from_its_seven_bytes_alone() {
 
 #[test]
 fn either_order_of_either_is_alike_where_silent_is_in_the_file() {
-    let mut expressions = [event_record(b'a'), event_record(b'b')].concat();
-    expressions.extend(b"\x08\0\x04\0\0\0\x01\0\x08\0\x04\0\x01\0\0\0");
+    let events = [record(2, b"a"), record(2, b"b")];
+    let eithers = [record(4, &[0, 0, 1, 0]), record(4, &[1, 0, 0, 0])];
+    let mut expressions = [events, eithers].concat().concat();
     let pairs = pair(2, 3);
     let rejection = judge(&expressions, &pairs).unwrap_err();
     assert_eq!(rejection.refusal(), Refusal::RemainderNotInFile);
-    expressions.extend(b"\x04\0\x01\0");
+    expressions.extend(record(1, b""));
     assert!(judge(&expressions, &pairs).is_ok());
 }
 
 #[test]
 fn the_shown_part_starts_at_the_faulty_record() {
-    let notices = b"\x08\0\x07\0\0\0\x01\0\x08\0\x07\0\0\0\x02\0\x04\0\x01\0";
-    let expressions = [EVENT_A, notices].concat();
+    let notices = [record(7, &[0, 0, 1, 0]), record(7, &[0, 0, 2, 0])].concat();
+    let expressions = [EVENT_A, &notices, &record(1, b"")].concat();
     let pairs = [pair(1, 1), pair(1, 2), pair(2, 2)].concat();
     let rejection = judge(&expressions, &pairs).unwrap_err();
     assert_eq!(rejection.refusal(), Refusal::NoticesDiffer);
