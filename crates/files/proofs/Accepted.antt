@@ -12,7 +12,7 @@ use Rattle.par.specs.declared.Node.{Node}
 use Rattle.par.specs.declared.Node.the-variants.{Silent, Event, Not, Either, Then, Repeat, Notify, Try}
 use Rattle.par.specs.Expr.{Expr}
 use Rattle.par.specs.Records.{grow, Parts, expr, File}
-use Rattle.par.specs.Throughout.{Throughout}
+use Rattle.par.specs.Throughout.{Writable}
 use Rattle.par.proofs.Records.{parts-map, expr-step}
 use Rattle.records.specs.declared.Contents.{Contents}
 use Rattle.records.specs.declared.Contents.the-variants.{Expressions, Pairs}
@@ -80,10 +80,7 @@ few s = reading-within s .1
 
 -- ---- in range
 
-abbrev Ranged : Expr → Type 0
-Ranged = Throughout (λ b. b < 256) (λ A. A < 65536)
-
-grow-ranged : (e : ℕ → Expr) (m : Node) → InRange m → Parts (λ p. Ranged (e p)) m → Ranged (grow e m)
+grow-ranged : (e : ℕ → Expr) (m : Node) → InRange m → Parts (λ p. Writable 16 (e p)) m → Writable 16 (grow e m)
 grow-ranged e Silent h u = tt
 grow-ranged e (Event b) h u = h
 grow-ranged e (Not x) h u = u
@@ -94,15 +91,14 @@ grow-ranged e (Notify x A) h u = (u, h)
 grow-ranged e (Try x y) h u = u
 
 module _ (n : ℕ) (node : ℕ → Node) (file : File n node) (ranged : (r : ℕ) → InRange (node r)) where
-  ranged-below : (m r : ℕ) → r < m → r < n → Ranged (expr node r)
+  ranged-below : (m r : ℕ) → r < m → r < n → Writable 16 (expr node r)
   ranged-below zero r h w = absurd (omega arith)
   ranged-below (suc m) r h w =
       rw (expr-step n node (file .earlier) r w)
       (grow-ranged (expr node) (node r) (ranged r)
       (parts-map (λ p q. ranged-below m p (omega arith) (omega arith)) (node r) (file .earlier r w)))
 
-pub accepted-range : (s : List ℕ) → ((i : ℕ) → getD s i 0 < 256) → (r : ℕ) → r < length (reading s .places)
-    → Throughout (λ b. b < 256) (λ A. A < 65536) (exprOf s r)
+pub accepted-range : (s : List ℕ) → ((i : ℕ) → getD s i 0 < 256) → (r : ℕ) → r < length (reading s .places) → Writable 16 (exprOf s r)
 unfolding exprOf nodeIn
 accepted-range s small r w =
     ranged-below (length (reading s .places)) (nodeIn s (reading s .places)) (read-file s)

@@ -9,7 +9,7 @@ use Rattle.par.specs.declared.Node.{Node}
 use Rattle.par.specs.Expr.{size}
 use Rattle.par.specs.Expr.{Expr.event, Expr.then, Expr.repeat, Expr.notify, Expr.try}
 use Rattle.par.specs.Records.{expr, File}
-use Rattle.par.specs.Throughout.{Throughout}
+use Rattle.par.specs.Throughout.{Writable}
 use Rattle.records.specs.declared.Contents.the-variants.{Expressions, Pairs}
 use Rattle.records.specs.Fields.{wordAt}
 use Rattle.records.specs.Walk.{Found, found}
@@ -131,8 +131,7 @@ pub accepted-some : (s : List ℕ) → reading s .number ≡ 0 → 1 ≤ length 
 accepted-some = accepted.accepted-some
 
 -- In a file of bytes every event is a byte, and every notice set fits 16 bits.
-pub accepted-range : (s : List ℕ) → ((i : ℕ) → getD s i 0 < 256) → (r : ℕ) → r < length (reading s .places)
-    → Throughout (λ b. b < 256) (λ A. A < 65536) (exprOf s r)
+pub accepted-range : (s : List ℕ) → ((i : ℕ) → getD s i 0 < 256) → (r : ℕ) → r < length (reading s .places) → Writable 16 (exprOf s r)
 accepted-range = accepted.accepted-range
 
 -- ---- An accepted pair file has 1 to 256 pairs, and both numbers of each are there

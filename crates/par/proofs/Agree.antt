@@ -32,9 +32,15 @@ agree-refl = record { on-notices = refl; on-statuses = refl }
 pub agree-eq : {x y u v : Expr} {feed : List ℕ} → x ≡ u → y ≡ v → Agree feed u v → Agree feed x y
 agree-eq p q h = rw (p, q) h
 
-first-notices : {x y : Expr} {a : ℕ} {feed : List ℕ} → Agree (a ∷ feed) x y → notices x a ≡ notices y a
+-- of equal notices on a feed, those at the first event and those on the rest
+pub notices-first : (x y : Expr) (a : ℕ) (feed : List ℕ) → noticesOn x (a ∷ feed) ≡ noticesOn y (a ∷ feed) → notices x a ≡ notices y a
 unfolding answers
-first-notices h = let e = h .on-notices in cc
+notices-first x y a feed e = cc
+
+pub notices-rest : (x y : Expr) (a : ℕ) (feed : List ℕ) → noticesOn x (a ∷ feed) ≡ noticesOn y (a ∷ feed)
+    → noticesOn (remainder x a) feed ≡ noticesOn (remainder y a) feed
+unfolding answers
+notices-rest x y a feed e = cc
 
 first-status : {x y : Expr} {a : ℕ} {feed : List ℕ} → Agree (a ∷ feed) x y → status x a ≡ status y a
 unfolding answers
@@ -42,7 +48,7 @@ first-status h = let e = h .on-statuses in cc
 
 agree-rest : {x y : Expr} {a : ℕ} {feed : List ℕ} → Agree (a ∷ feed) x y → Agree feed (remainder x a) (remainder y a)
 unfolding answers
-agree-rest h = let n = h .on-notices in let s = h .on-statuses in record { on-notices = cc; on-statuses = cc }
+agree-rest {x} {y} {a} {feed} h = let s = h .on-statuses in record { on-notices = notices-rest x y a feed (h .on-notices); on-statuses = cc }
 
 -- ---- likeness is agreement on every feed of bytes
 
@@ -57,7 +63,7 @@ pub always : {x y : Expr} → ((feed : List ℕ) → Agree feed x y) → Like x 
 always h = like (λ feed bs. h feed)
 
 pub like-notices : {x y : Expr} → Like x y → (a : ℕ) → a < 256 → notices x a ≡ notices y a
-like-notices h a b = first-notices (agree h (a ∷ []) (b, tt))
+like-notices {x} {y} h a b = notices-first x y a [] (h .same-notices (a ∷ []) (b, tt))
 
 pub like-status : {x y : Expr} → Like x y → (a : ℕ) → a < 256 → status x a ≡ status y a
 like-status h a b = first-status (agree h (a ∷ []) (b, tt))

@@ -16,6 +16,7 @@ pub mod Measures
 pub mod Growth
 pub mod Weight
 pub mod Throughout
+pub mod LikeWidest
 pub mod Unnamed
 pub mod Records
 pub mod Worked

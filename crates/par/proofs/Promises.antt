@@ -8,14 +8,15 @@ use Rattle.par.specs.declared.Status.the-variants.{Waiting}
 use Rattle.par.specs.declared.Node.{Node}
 use Rattle.par.specs.Status.{higher, lower, tried, rank}
 use Rattle.par.specs.Expr.{Expr, join, size}
-use Rattle.par.specs.Expr.{Expr.silent, Expr.not, Expr.either, Expr.then, Expr.repeat, Expr.notify, Expr.try}
+use Rattle.par.specs.Expr.{Expr.silent, Expr.event, Expr.not, Expr.either, Expr.then, Expr.repeat, Expr.notify, Expr.try}
 use Rattle.par.specs.Figures.{Completes, Becomes, Sends, Completes.αSel}
 use Rattle.par.specs.Step.{status, notices, remainder, lines, made}
-use Rattle.par.specs.Feed.{answers, after}
+use Rattle.par.specs.Feed.{answers, after, noticesOn, Bytes}
 use Rattle.par.specs.Like.{Like, Swapped, Closed}
 use Rattle.par.specs.Moving.{Moved}
 use Rattle.par.specs.Moving.{Moved.over-notify, Moved.of-none, Moved.over-then, Moved.over-either, Moved.over-try, Moved.over-repeat}
-use Rattle.par.specs.Throughout.{Unnamed, Fits}
+use Rattle.par.specs.Throughout.{Unnamed, Fits, Writable}
+use Rattle.par.specs.Exchange.{Exchangeable, SameBefore}
 use Rattle.par.specs.Records.{expr, File}
 use Rattle.par.proofs.Order
 use Rattle.par.proofs.Sets
@@ -28,6 +29,7 @@ use Rattle.par.proofs.LikeSwapped
 use Rattle.par.proofs.LikeEquations
 use Rattle.par.proofs.LikeClosed
 use Rattle.par.proofs.LikeMoved.{moved-like}
+use Rattle.par.proofs.LikeWidest
 use Rattle.par.proofs.Growth
 use Rattle.par.proofs.Weight
 use Rattle.par.proofs.Throughout
@@ -157,6 +159,30 @@ notify-repeat x A = moved-like over-repeat
 -- each of them inside a larger rule, at one spot or several
 pub moved-anywhere : {x y : Expr} → Moved x y → {u v : Expr} → Swapped x y u v → Like u v
 moved-anywhere m = swapped-like (moved-like m)
+
+-- ---- Likeness is the widest relation under which rules can be exchanged (the paper's theorem 4 (2))
+
+-- Equal notices inside every larger rule that can be written, where there is a recipient, are likeness: equal statuses come with them.
+pub exchangeable-is-like : (k : ℕ) → 0 < k → (x y : Expr) → Writable k x → Writable k y → Exchangeable k x y ↔ Like x y
+exchangeable-is-like k some x y p q = (LikeWidest.exchangeable-like k some p q, LikeWidest.like-exchangeable k)
+
+-- In the paper's words: a congruence that refines equality of notices refines likeness. By `swapped-like` likeness is such a congruence.
+pub widest : (k : ℕ) → 0 < k → (R : Expr → Expr → Type 0)
+    → ((x y u v : Expr) → R x y → Swapped x y u v → Writable k u → Writable k v → R u v)
+    → ((x y : Expr) → R x y → Writable k x → Writable k y → (feed : List ℕ) → Bytes feed → noticesOn x feed ≡ noticesOn y feed)
+    → (x y : Expr) → R x y → Writable k x → Writable k y → Like x y
+widest k some R congruence refines x y r p q =
+    exchangeable-is-like k some x y p q .0 (record { inside = λ {u} {v} s p' q'. refines u v (congruence x y u v r s p' q') p' q' })
+
+-- Two larger rules are enough, which hold the expressions as they are, and reversed, before one that sends something on some byte.
+pub before-like : (w : Expr) (b : ℕ) → b < 256 → notices w b ≢ 0 → {x y : Expr} → SameBefore w x y → Like x y
+before-like = LikeWidest.before-like
+
+-- Equal notices of the two by themselves are not enough.
+pub alone-not-enough : (k : ℕ) → 0 < k → (b : ℕ) → b < 256
+    → ((feed : List ℕ) → noticesOn (event b) feed ≡ noticesOn silent feed) × ¬ Exchangeable k (event b) silent
+alone-not-enough k some b l =
+    (LikeWidest.same-alone b, λ e. LikeWidest.not-alike b l (exchangeable-is-like k some (event b) silent l tt .0 e))
 
 -- ---- No rule outgrows its bounds, on any feed
 

@@ -7,4 +7,5 @@ pub mod Feed
 pub mod Like
 pub mod Moving
 pub mod Throughout
+pub mod Exchange
 pub mod Records

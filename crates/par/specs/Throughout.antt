@@ -25,3 +25,7 @@ Unnamed a = Throughout (λ b. a ≢ b) Any
 -- its notice sets have at most k bits
 abbrev pub Fits : ℕ → Expr → Type 0
 Fits k = Throughout Any (λ A. A < 2 ^ k)
+
+-- its events are bytes and its notice sets have at most k bits: what a file can hold, where k is 16
+abbrev pub Writable : ℕ → Expr → Type 0
+Writable k = Throughout (λ b. b < 256) (λ A. A < 2 ^ k)
