@@ -1,53 +1,12 @@
 //! The laws of moving a notice, a proposal each: it is accepted, and with the mistake that looks right in the law's place it is refused.
 //! And how the bundled proposal, in which the swap rule's notice is moved, is made.
 
+mod expressions;
 mod files;
 
-use files::{pair, record};
+use expressions::Expressions;
+use files::pair;
 use meadwhistle::{judge, Refusal};
-
-/// An expression file. Adding a record gives its number.
-#[derive(Default)]
-struct Expressions {
-    bytes: Vec<u8>,
-    count: u8,
-}
-
-impl Expressions {
-    fn add(&mut self, kind: u8, body: &[u8]) -> u8 {
-        self.bytes.extend(record(kind, body));
-        self.count += 1;
-        self.count - 1
-    }
-
-    fn silent(&mut self) -> u8 {
-        self.add(1, &[])
-    }
-
-    fn event(&mut self, event: u8) -> u8 {
-        self.add(2, &[event])
-    }
-
-    fn either(&mut self, x: u8, y: u8) -> u8 {
-        self.add(4, &[x, 0, y, 0])
-    }
-
-    fn then(&mut self, x: u8, y: u8) -> u8 {
-        self.add(5, &[x, 0, y, 0])
-    }
-
-    fn repeat(&mut self, x: u8) -> u8 {
-        self.add(6, &[x, 0])
-    }
-
-    fn notify(&mut self, x: u8, set: u8) -> u8 {
-        self.add(7, &[x, 0, set, 0])
-    }
-
-    fn try_unless(&mut self, x: u8, y: u8) -> u8 {
-        self.add(8, &[x, 0, y, 0])
-    }
-}
 
 #[test]
 fn each_move_is_accepted_and_its_mistake_refused() {
