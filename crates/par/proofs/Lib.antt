@@ -12,6 +12,7 @@ pub mod LikeSwapped
 pub mod LikeEquations
 pub mod LikeClosed
 pub mod LikeMoved
+pub mod LikeSettings
 pub mod Measures
 pub mod Growth
 pub mod Weight

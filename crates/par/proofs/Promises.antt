@@ -11,12 +11,12 @@ use Rattle.par.specs.Expr.{Expr, join, size}
 use Rattle.par.specs.Expr.{Expr.silent, Expr.event, Expr.not, Expr.either, Expr.then, Expr.repeat, Expr.notify, Expr.try}
 use Rattle.par.specs.Figures.{Completes, Becomes, Sends, Completes.αSel}
 use Rattle.par.specs.Step.{status, notices, remainder, lines, made}
-use Rattle.par.specs.Feed.{answers, after, noticesOn, Bytes}
+use Rattle.par.specs.Feed.{answers, after, noticesOn, statusesOn, Bytes}
 use Rattle.par.specs.Like.{Like, Swapped, Closed}
 use Rattle.par.specs.Moving.{Moved}
 use Rattle.par.specs.Moving.{Moved.over-notify, Moved.of-none, Moved.over-then, Moved.over-either, Moved.over-try, Moved.over-repeat}
 use Rattle.par.specs.Throughout.{Unnamed, Fits, Writable}
-use Rattle.par.specs.Exchange.{Exchangeable, SameBefore}
+use Rattle.par.specs.Exchange.{Exchangeable, SameInBoth, ToldApart}
 use Rattle.par.specs.Records.{expr, File}
 use Rattle.par.proofs.Order
 use Rattle.par.proofs.Sets
@@ -29,6 +29,7 @@ use Rattle.par.proofs.LikeSwapped
 use Rattle.par.proofs.LikeEquations
 use Rattle.par.proofs.LikeClosed
 use Rattle.par.proofs.LikeMoved.{moved-like}
+use Rattle.par.proofs.LikeSettings
 use Rattle.par.proofs.LikeWidest
 use Rattle.par.proofs.Growth
 use Rattle.par.proofs.Weight
@@ -174,9 +175,14 @@ pub widest : (k : ℕ) → 0 < k → (R : Expr → Expr → Type 0)
 widest k some R congruence refines x y r p q =
     exchangeable-is-like k some x y p q .0 (record { inside = λ {u} {v} s p' q'. refines u v (congruence x y u v r s p' q') p' q' })
 
--- Two larger rules are enough, which hold the expressions as they are, and reversed, before one that sends something on some byte.
-pub before-like : (w : Expr) (b : ℕ) → b < 256 → notices w b ≢ 0 → {x y : Expr} → SameBefore w x y → Like x y
-before-like = LikeWidest.before-like
+-- Two larger rules are enough: the expression as it is, and reversed, before any w that sends something on some byte.
+pub both-like : (w : Expr) (b : ℕ) → b < 256 → notices w b ≢ 0 → {x y : Expr} → SameInBoth w x y → Like x y
+both-like = LikeSettings.both-like
+
+-- Where statuses differ on some feed, notices differ in one of the two on some feed.
+pub brought-to-light : (w : Expr) (b : ℕ) → b < 256 → notices w b ≢ 0 → (feed : List ℕ) → Bytes feed
+    → (x y : Expr) → statusesOn x feed ≢ statusesOn y feed → ToldApart w x y
+brought-to-light = LikeSettings.brought-to-light
 
 -- Equal notices of the two by themselves are not enough.
 pub alone-not-enough : (k : ℕ) → 0 < k → (b : ℕ) → b < 256
