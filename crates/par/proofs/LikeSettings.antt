@@ -1,4 +1,4 @@
--- Two larger rules, the settings, tell apart whatever is not alike: `both-like`; and how they do: `brought-to-light`.
+-- Two larger rules, the settings, tell apart whatever is not alike: `same-in-both-like`; and how they do: `brought-to-light`.
 use Prim.Native.Nat.{ℕ, _<_}
 use mathlib.Core.Path.{_≡_, refl, sym, ap₂, _∙_}
 use mathlib.Core.List.{List, [], _∷_}
@@ -78,18 +78,13 @@ module _ (w : Expr) (b : ℕ) (byte : b < 256) (sends : notices w b ≢ 0) where
       let e = same-status x y a (next plain) (next reversed) in
       record { notices-equal = same-notices h a l; statuses-equal = e; remainders = rest h a l (status y a) e refl }
 
-  pub both-like : {x y : Expr} → SameInBoth w x y → Like x y
-  both-like {x} {y} h = closed-like (SameInBoth w) (record { closes = closes }) x y h
+  pub same-in-both-like : {x y : Expr} → SameInBoth w x y → Like x y
+  same-in-both-like {x} {y} h = closed-like (SameInBoth w) (record { closes = closes }) x y h
 
   -- ---- where statuses differ, a setting and a feed that tell the two apart are found by looking at b after each event
 
   at-next : (x y : Expr) (a : ℕ) → a < 256 → (s : Setting) → ¬ NextSame s x y a → ToldApart w x y
   at-next x y a l s n = record { setting = s; feed = a ∷ b ∷ []; bytes = (l, (byte, tt)); differ = λ e. n (next-same x y a s e) }
-
-  look : (x y : Expr) (a : ℕ) → a < 256 → Dec (NextSame plain x y a) → Dec (NextSame reversed x y a) → (status x a ≡ status y a) ⊎ ToldApart w x y
-  look x y a l (yes p) (yes r) = inl (same-status x y a p r)
-  look x y a l (yes p) (no n) = inr (at-next x y a l reversed n)
-  look x y a l (no n) d = inr (at-next x y a l plain n)
 
   later : (x y : Expr) (a : ℕ) → a < 256 → status x a ≡ Waiting → status y a ≡ Waiting → ToldApart w (remainder x a) (remainder y a) → ToldApart w x y
   later x y a l p q t = record {
@@ -107,9 +102,10 @@ module _ (w : Expr) (b : ℕ) (byte : b < 256) (sends : notices w b ≢ 0) where
     on-rest Success p q = absurd (differ (let e = both-finished x y a success-waiting p q in cc))
     on-rest Failure p q = absurd (differ (let e = both-finished x y a failure-waiting p q in cc))
 
-    now-or-later : (status x a ≡ status y a) ⊎ ToldApart w x y → ToldApart w x y
-    now-or-later (inl e) = on-rest (status y a) e refl
-    now-or-later (inr t) = t
+    now-or-later : Dec (NextSame plain x y a) → Dec (NextSame reversed x y a) → ToldApart w x y
+    now-or-later (yes p) (yes r) = on-rest (status y a) (same-status x y a p r) refl
+    now-or-later (yes p) (no n) = at-next x y a l reversed n
+    now-or-later (no n) d = at-next x y a l plain n
 
   decide : (s : Setting) (x y : Expr) (a : ℕ) → Dec (NextSame s x y a)
   decide s x y a = ℕ-discrete (notices (remainder (inSetting s w x) a) b) (notices (remainder (inSetting s w y) a) b)
@@ -118,4 +114,4 @@ module _ (w : Expr) (b : ℕ) (byte : b < 256) (sends : notices w b ≢ 0) where
   unfolding answers
   brought-to-light [] bs x y n = absurd (n refl)
   brought-to-light (a ∷ feed) (l, bs) x y n =
-      now-or-later x y a l feed n (brought-to-light feed bs (remainder x a) (remainder y a)) (look x y a l (decide plain x y a) (decide reversed x y a))
+      now-or-later x y a l feed n (brought-to-light feed bs (remainder x a) (remainder y a)) (decide plain x y a) (decide reversed x y a)

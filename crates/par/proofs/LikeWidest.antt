@@ -1,4 +1,5 @@
--- Likeness is the widest relation under which expressions can be exchanged: `exchangeable-like`.
+-- Likeness is the widest relation under which expressions can be exchanged: `exchangeable-like`. Equal notices of the two by themselves
+-- are a wider one, under which they cannot: `same-alone` and `not-alike`.
 use Prim.Native.Nat.{ℕ, _<_, _^_}
 use mathlib.Core.Path.{_≡_, refl, sym, ap₂, _∙_}
 use mathlib.Core.List.{List, [], _∷_}
@@ -19,7 +20,7 @@ use Rattle.par.proofs.Order.{success-waiting}
 use Rattle.par.proofs.Figure3.{completes-value}
 use Rattle.par.proofs.Agree.{like-status}
 use Rattle.par.proofs.LikeSwapped.{swapped-like}
-use Rattle.par.proofs.LikeSettings.{both-like}
+use Rattle.par.proofs.LikeSettings.{same-in-both-like}
 use Rattle.par.proofs.Throughout.{remainder-has, notices-lt}
 
 -- ---- equal notices inside every larger rule are likeness, since they are equal in both settings
@@ -46,7 +47,7 @@ module _ (k : ℕ) (some : 0 < k) where
 
   pub exchangeable-like : {x y : Expr} → Writable k x → Writable k y → Exchangeable k x y → Like x y
   exchangeable-like {x} {y} p q e =
-      both-like witness 0 (lit< tt) witness-sends
+      same-in-both-like witness 0 (lit< tt) witness-sends
       (record { same = λ s. e .inside (in-setting witness x y s) (setting-writable x s p) (setting-writable y s q) })
 
 pub like-exchangeable : (k : ℕ) {x y : Expr} → Like x y → Exchangeable k x y

@@ -176,8 +176,8 @@ widest k some R congruence refines x y r p q =
     exchangeable-is-like k some x y p q .0 (record { inside = λ {u} {v} s p' q'. refines u v (congruence x y u v r s p' q') p' q' })
 
 -- Two larger rules are enough: the expression as it is, and reversed, before any w that sends something on some byte.
-pub both-like : (w : Expr) (b : ℕ) → b < 256 → notices w b ≢ 0 → {x y : Expr} → SameInBoth w x y → Like x y
-both-like = LikeSettings.both-like
+pub same-in-both-like : (w : Expr) (b : ℕ) → b < 256 → notices w b ≢ 0 → {x y : Expr} → SameInBoth w x y → Like x y
+same-in-both-like = LikeSettings.same-in-both-like
 
 -- Where statuses differ on some feed, notices differ in one of the two on some feed.
 pub brought-to-light : (w : Expr) (b : ℕ) → b < 256 → notices w b ≢ 0 → (feed : List ℕ) → Bytes feed
