@@ -1,14 +1,19 @@
--- How large a remainder can get: at most (n * n + 3 * n - 2) / 2 nodes for a rule of size n, whatever the feed.
-use Prim.Native.Nat.{ℕ, _+_, _*_, _-_, _/_, _≤_, max}
-use mathlib.Core.Path.{_≡_}
-use mathlib.Core.List.{List}
+-- How large a remainder can get: at most `mostNodes n` for a rule of n nodes, whatever the feed, and so large one event makes it where the rule
+-- is repeats around another.
+use Prim.Native.Nat.{ℕ, zero, suc, _+_, _*_, _≤_, max}
+use mathlib.Core.Path.{_≡_, refl}
+use mathlib.Core.List.{List, [], _∷_}
+use mathlib.Core.Logic.{_≢_}
 use native.Mathlib.Omega.{arith}
 use native.Mathlib.Nat.{le-refl, mul-le-mul-left, add-mul, mul-add, mul-comm, mul-one, one-mul}
 use lib.Dec.{eqb}
+use Rattle.par.specs.declared.Status.the-variants.{Waiting}
 use Rattle.par.specs.Expr.{Expr, size}
 use Rattle.par.specs.Expr.{Expr.silent, Expr.event, Expr.not, Expr.either, Expr.then, Expr.repeat, Expr.notify, Expr.try}
 use Rattle.par.specs.Step.{status, remainder, met}
 use Rattle.par.specs.Feed.{after}
+use Rattle.par.specs.Growth.{mostNodes, repeats}
+use Rattle.par.proofs.Figure3.{other-event}
 use Rattle.par.proofs.Measures.{kept-le, then-le, either-le, try-le, feed-le}
 
 -- a size that nothing left of the expression exceeds
@@ -67,8 +72,32 @@ bound-square (repeat x) = omega (arith, bound-square x, square-one (size x))
 bound-square (notify x A) = omega (arith, bound-square x, square-one (size x))
 bound-square (try x y) = omega (arith, bound-square x, bound-square y, square (size x) (size y))
 
-pub size-after : (e : Expr) (feed : List ℕ) → size (after e feed) ≤ (size e * size e + 3 * size e - 2) / 2
+pub size-after : (e : Expr) (feed : List ℕ) → size (after e feed) ≤ mostNodes (size e)
 size-after e feed = omega (arith, size-bound (after e feed), feed-le bound bound-falls feed e, bound-square e)
+
+-- ---- the bound is reached: each repeat waits, and adds itself behind what remains of its part
+
+module _ (b a : ℕ) (other : a ≢ b) where
+  repeats-wait : (k : ℕ) → status (repeats k (event b)) a ≡ Waiting
+  unfolding repeats status
+  repeats-wait zero = rw (other-event other)
+  repeats-wait (suc k) = rw (repeats-wait k)
+
+  repeats-size : (k : ℕ) → size (repeats k (event b)) ≡ suc k
+  unfolding repeats size
+  repeats-size zero = refl
+  repeats-size (suc k) = omega (arith, repeats-size k)
+
+  repeats-left : (k : ℕ) → 2 * size (remainder (repeats k (event b)) a) + 2 ≡ suc k * suc k + 3 * suc k
+  unfolding repeats size remainder
+  repeats-left zero = rw (other-event other)
+  repeats-left (suc k) = rw (repeats-wait k) (omega (arith, repeats-size k, repeats-left k, square-one (suc k)))
+
+  pub size-reached : (k : ℕ) → (size (repeats k (event b)) ≡ suc k) × (size (after (repeats k (event b)) (a ∷ [])) ≡ mostNodes (suc k))
+  unfolding after
+  size-reached k = (repeats-size k, omega (arith, repeats-left k))
+
+-- ---- at size 64
 
 pub size-after-64 : (e : Expr) (feed : List ℕ) → size e ≤ 64 → size (after e feed) ≤ 2143
 size-after-64 e feed h = omega (arith, size-after e feed, mul-le-mul-left (size e) h)

@@ -1,7 +1,7 @@
 -- What this crate promises, each theorem whole, with the file that proves it cited. Assumes nothing: there is no axiom in the crate.
-use Prim.Native.Nat.{ℕ, _+_, _*_, _-_, _/_, _%_, _^_, _<_, _≤_, min, max}
+use Prim.Native.Nat.{ℕ, suc, _/_, _%_, _^_, _<_, _≤_, min, max}
 use mathlib.Core.Path.{_≡_, refl, sym, _∙_}
-use mathlib.Core.List.{List, map, List·Memᴰ}
+use mathlib.Core.List.{List, [], _∷_, map, List·Memᴰ}
 use mathlib.Core.Logic.{_≢_, _↔_}
 use Rattle.par.specs.declared.Status.{Status}
 use Rattle.par.specs.declared.Status.the-variants.{Waiting}
@@ -17,6 +17,7 @@ use Rattle.par.specs.Moving.{Moved}
 use Rattle.par.specs.Moving.{Moved.over-notify, Moved.of-none, Moved.over-then, Moved.over-either, Moved.over-try, Moved.over-repeat}
 use Rattle.par.specs.Throughout.{Unnamed, Fits, Writable}
 use Rattle.par.specs.Exchange.{Exchangeable, SameInBoth, ToldApart}
+use Rattle.par.specs.Growth.{mostNodes, repeats}
 use Rattle.par.specs.Records.{expr, File}
 use Rattle.par.proofs.Order
 use Rattle.par.proofs.Sets
@@ -192,11 +193,19 @@ alone-not-enough k some b l =
 
 -- ---- No rule outgrows its bounds, on any feed
 
-pub size-after : (x : Expr) (feed : List ℕ) → size (after x feed) ≤ (size x * size x + 3 * size x - 2) / 2
+pub size-after : (x : Expr) (feed : List ℕ) → size (after x feed) ≤ mostNodes (size x)
 size-after = Growth.size-after
+
+-- No lower bound holds at any size from 1 on: repeats around an event reach it, on any other event.
+pub size-reached : (b a : ℕ) → a ≢ b → (k : ℕ)
+    → (size (repeats k (event b)) ≡ suc k) × (size (after (repeats k (event b)) (a ∷ [])) ≡ mostNodes (suc k))
+size-reached = Growth.size-reached
 
 pub size-after-64 : (x : Expr) (feed : List ℕ) → size x ≤ 64 → size (after x feed) ≤ 2143
 size-after-64 = Growth.size-after-64
+
+pub size-reached-64 : (b a : ℕ) → a ≢ b → (size (repeats 63 (event b)) ≡ 64) × (size (after (repeats 63 (event b)) (a ∷ [])) ≡ 2143)
+size-reached-64 b a other = size-reached b a other 63
 
 pub made-after : (x : Expr) (feed : List ℕ) → made (after x feed) < size x
 made-after = Weight.made-after

@@ -8,4 +8,5 @@ pub mod Like
 pub mod Moving
 pub mod Throughout
 pub mod Exchange
+pub mod Growth
 pub mod Records
