@@ -59,11 +59,11 @@ module _ {E : ℕ → Expr} {n : ℕ} {e : Expr} {q : ℕ} where
 -- ---- one fault at most
 
 module _ {E : ℕ → Expr} {n : ℕ} {Listed : ℕ → ℕ → Type 0} {d e : Expr} {a : ℕ} where
-  pub fault-some : {k : ℕ} → Fault E n Listed d e a k → k ≢ 0
-  fault-some (notices-differ f) i = omega arith
-  fault-some (statuses-differ g f) i = omega arith
-  fault-some (not-in-file g h f) i = omega arith
-  fault-some (not-listed g h s t u v) i = omega arith
+  pub fault-number : {k : ℕ} → Fault E n Listed d e a k → (10 ≤ k) × (k ≤ 13)
+  fault-number (notices-differ f) = (omega arith, omega arith)
+  fault-number (statuses-differ g f) = (omega arith, omega arith)
+  fault-number (not-in-file g h f) = (omega arith, omega arith)
+  fault-number (not-listed g h s t u v) = (omega arith, omega arith)
 
   pub fault-one : {k m : ℕ} → Fault E n Listed d e a k → Fault E n Listed d e a m → k ≡ m
   fault-one (notices-differ f) (notices-differ g) = refl

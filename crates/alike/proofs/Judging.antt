@@ -1,7 +1,8 @@
--- The verdict on two files: `judged` computes what Says says, nothing else is said, and the number is 0 exactly where the proposal is accepted.
-use Prim.Native.Nat.{ℕ, zero, suc, _<_}
+-- The verdict on two files: `judged` computes what Says says, nothing else is said, the number is at most 14, and 0 exactly where the
+-- proposal is accepted.
+use Prim.Native.Nat.{ℕ, zero, suc, _<_, _≤_}
 use mathlib.Core.Path.{_≡_, refl, sym, _∙_, ap}
-use mathlib.Core.Logic.{_≢_, _⊎_, inl, inr, _↔_}
+use mathlib.Core.Logic.{_≢_, _⊎_, inl, inr, ⊎-elim, _↔_}
 use mathlib.Core.List.{List, [], _∷_}
 use mathlib.Core.Bool.{true, false}
 use native.Mathlib.Omega.{arith}
@@ -12,13 +13,14 @@ use Rattle.par.proofs.Records.{one-record}
 use Rattle.records.proofs.Tests.{cond-case}
 use Rattle.files.specs.Reading.{reading}
 use Rattle.files.specs.Rule.{nodeIn, exprOf}
+use Rattle.files.proofs.Readings.{reading-number, reading-pairs-number}
 use Rattle.files.proofs.Accepted.{read-file, few}
 use Rattle.alike.specs.declared.Judged.{Judged}
 use Rattle.alike.specs.Proposal.{records, listing, pairs, leftOf, rightOf, Accepted, Faulty, verdict, Says}
 use Rattle.alike.specs.Proposal.{Says.expressions-at-fault, Says.pairs-at-fault, Says.pair-at-fault, Says.accepted}
 use Rattle.alike.specs.Settled.{FirstAt, Settled}
 use Rattle.alike.specs.Verdict.{closing, judged}
-use Rattle.alike.proofs.Faults.{fault-some}
+use Rattle.alike.proofs.Faults.{fault-number}
 use Rattle.alike.proofs.Settling.{first-settled, settled-one}
 
 pub getD-inside : (l : List ℕ) (i d e : ℕ) → i < length l → getD l i d ≡ getD l i e
@@ -122,12 +124,25 @@ module _ (es ps : List ℕ) where
   pub says-one : {v w : Judged} → Says es ps v → Says es ps w → v ≡ w
   says-one s t = says-judged s ∙ sym (says-judged t)
 
-  -- ---- number 0
+  -- ---- the numbers
+
+  listing-few : listing es ps .number ≤ 14
+  unfolding listing
+  listing-few = ⊎-elim (λ h. omega arith) (⊎-elim (λ h. omega arith) (λ h. omega arith)) (reading-pairs-number ps (records es))
+
+  says-few : {v : Judged} → Says es ps v → v .number ≤ 14
+  says-few (expressions-at-fault h) = omega (arith, reading-number es)
+  says-few (pairs-at-fault r h) = listing-few
+  says-few (pair-at-fault r l f) = omega (arith, fault-number (f .fault) .1)
+  says-few (accepted a) = omega arith
+
+  pub judged-number : judged es ps .number ≤ 14
+  judged-number = says-few judged-says
 
   says-accepted : {v : Judged} → Says es ps v → v .number ≡ 0 → Accepted es ps
   says-accepted (expressions-at-fault h) e = absurd (h e)
   says-accepted (pairs-at-fault r h) e = absurd (h e)
-  says-accepted (pair-at-fault r l f) e = absurd (fault-some (f .fault) e)
+  says-accepted (pair-at-fault r l f) e = absurd (omega (arith, fault-number (f .fault) .0))
   says-accepted (accepted a) e = a
 
   pub zero-exactly : (judged es ps .number ≡ 0) ↔ Accepted es ps

@@ -36,6 +36,9 @@ judged-says = Judging.judged-says
 pub says-one : (es ps : List ℕ) (v w : Judged) → Says es ps v → Says es ps w → v ≡ w
 says-one es ps v w = Judging.says-one es ps
 
+pub judged-number : (es ps : List ℕ) → judged es ps .number ≤ 14
+judged-number = Judging.judged-number
+
 -- 0 exactly where both files are read without fault and every pair is closed on every event; then the empty tail is shown.
 pub zero-exactly : (es ps : List ℕ) → (judged es ps .number ≡ 0) ↔ Accepted es ps
 zero-exactly = Judging.zero-exactly

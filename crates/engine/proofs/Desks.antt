@@ -1,5 +1,5 @@
--- On any desk whatever: a refused opening and a step with no rule open change nothing, a finished rule stays open and silent, and no step uses
--- more than 64 lines.
+-- On any desk whatever: a refused opening and a step with no rule open change nothing, no other step is refused, a finished rule stays open and
+-- silent, and no step uses more than 64 lines.
 use Prim.Native.Nat.{ℕ, _≤_}
 use mathlib.Core.Path.{_≡_}
 use mathlib.Core.Logic.{_≢_}
@@ -23,6 +23,10 @@ module _ (d : Desk) (a : ℕ) where
   pub closed-step : d .is_open ≡ 0 → steppedOf d a ≡ record { desk = d; reply = refusal 15 }
   unfolding steppedOf
   closed-step e = rw e
+
+  pub open-step : d .is_open ≢ 0 → steppedOf d a .reply .number ≡ 0
+  unfolding steppedOf
+  open-step e = rw (marked-yes (d .is_open) e)
 
   pub finished-step : d .is_open ≢ 0 → d .done ≢ 0 → steppedOf d a ≡ record { desk = d; reply = record { number = 0; answer = nothing } }
   unfolding steppedOf

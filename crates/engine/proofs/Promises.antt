@@ -3,7 +3,7 @@
 use Prim.Native.Nat.{ℕ, suc, _+_, _*_, _≤_, _<_}
 use mathlib.Core.Path.{_≡_}
 use mathlib.Core.Logic.{_≢_}
-use mathlib.Core.List.{List, [], _∷_, _++_, map, List·Memᴰ}
+use mathlib.Core.List.{List, [], _∷_, _++_, map}
 use lib.ListN.{length, take, drop}
 use lib.Seq.{sets}
 use Rattle.par.specs.Expr.{Expr, size}
@@ -11,14 +11,13 @@ use Rattle.par.specs.Feed.{answer, answers, after, Bytes}
 use Rattle.par.proofs.Silence.{nothing}
 use Rattle.files.specs.Rule.{rule, ruleNumber}
 use Rattle.engine.specs.declared.Desk.{Desk}
-use Rattle.engine.specs.declared.Reply.{Reply}
 use Rattle.engine.specs.declared.feed.Ran.{Ran}
 use Rattle.engine.specs.Moves.{stepped, advanced}
 use Rattle.engine.specs.Means.{Own, Means}
 use Rattle.engine.specs.WrittenOut.{nodesOf}
 use Rattle.engine.specs.Feed.{answerBytes, fedBytes, Fed}
 use Rattle.engine.specs.Desk.{emptyDesk, freshDesk, marked, openedOf, refusal, steppedOf}
-use Rattle.engine.specs.History.{Call, Call.stepping, Back.replied, BytesIn, Book.closed, stepNumber, desksBack, backBytes, booksBack}
+use Rattle.engine.specs.History.{Call, Call.stepping, BytesIn, Book.closed, desksBack, backBytes, booksBack}
 use Rattle.engine.proofs.Right.{Good}
 use Rattle.engine.proofs.Right
 use Rattle.engine.proofs.RuleNodes
@@ -57,6 +56,9 @@ pub run-refused : (s events : List ℕ) (place : ℕ) (buffer : List ℕ) {r : R
     → (r .written ≡ 0) × (buffer' ≡ buffer)
 run-refused = Runs.ran-refused
 
+pub run-number : (s events : List ℕ) (place : ℕ) (buffer : List ℕ) {r : Ran} {buffer' : List ℕ} → Fed s events place buffer r buffer' → r .number ≤ 9
+run-number = Runs.ran-number
+
 -- `run`'s contract is met by one outcome; those of the desk are equations.
 pub run-one : {s events : List ℕ} {place : ℕ} {buffer : List ℕ} {r r' : Ran} {b b' : List ℕ} → Fed s events place buffer r b
     → Fed s events place buffer r' b' → (r ≡ r') × (b ≡ b')
@@ -73,6 +75,10 @@ refused-opening = Desks.refused-opening
 
 pub closed-step : (d : Desk) (a : ℕ) → d .is_open ≡ 0 → steppedOf d a ≡ record { desk = d; reply = refusal 15 }
 closed-step = Desks.closed-step
+
+-- No other step is refused.
+pub open-step : (d : Desk) (a : ℕ) → d .is_open ≢ 0 → steppedOf d a .reply .number ≡ 0
+open-step = Desks.open-step
 
 -- A finished rule stays open and silent.
 pub finished-step : (d : Desk) (a : ℕ) → d .is_open ≢ 0 → d .done ≢ 0
@@ -105,14 +111,6 @@ desk-is-run = DeskRuns.desk-is-run
 pub run-is-desk : (s events : List ℕ) → Bytes s → (d : Desk) {place : ℕ} {buffer buffer' : List ℕ} {r : Ran} → Fed s events place buffer r buffer'
     → r .number ≡ 0 → buffer' ≡ sets buffer place (backBytes (desksBack (openedOf d s .desk) (map stepping events)))
 run-is-desk = DeskRuns.run-is-desk
-
--- ---- Number 16 is never given
-
-pub no-16 : (x : Expr) (feed : List ℕ) (a : ℕ) → size x ≤ 64 → stepNumber x feed a ≡ 0
-no-16 = Histories.no-16
-
-pub number-16-never : (calls : List Call) (r : Reply) → List·Memᴰ (replied r) (booksBack closed calls) → r .number ≢ 16
-number-16-never = Histories.number-16-never
 
 -- ---- No step grows dear: at most as many lines as the rule has nodes, and on any desk whatever at most 64
 

@@ -12,7 +12,9 @@ use borrow.Author.Tests.{eqb-true, eqb-false, leb-true, ne-eqb}
 use Rattle.par.specs.Expr.{Expr}
 use Rattle.par.specs.Step.{remainder}
 use Rattle.par.specs.Feed.{answers}
+use Rattle.records.proofs.Tests.{cond-all}
 use Rattle.files.specs.Rule.{rule, ruleNumber}
+use Rattle.files.proofs.RuleNumbers.{rule-number}
 use Rattle.engine.specs.declared.writing.Nodes.{Nodes}
 use Rattle.engine.specs.declared.feed.Ran.{Ran}
 use Rattle.engine.specs.WrittenOut.{nodesOf}
@@ -78,7 +80,16 @@ module _ (s events : List ℕ) (place : ℕ) (buffer : List ℕ) where
       (λ u _. (eqb-true (ruleNumber s) 0 t, leb-true _ _ u)) (λ _ e. absurd (omega arith)))
       (λ t e. absurd (eqb-false (ruleNumber s) 0 t e))
 
+  ran-few : ranNumber s events place buffer ≤ 9
+  unfolding ranNumber
+  ran-few =
+      cond-all (λ k. k ≤ 9) (eqb (ruleNumber s) 0) _ _ (cond-all (λ k. k ≤ 9) (leb (place + 7 * length events) (length buffer)) 0 9 (omega arith) (omega arith))
+      (omega (arith, rule-number s))
+
   module _ {r : Ran} {buffer′ : List ℕ} (fed : Fed s events place buffer r buffer′) where
+    pub ran-number : r .number ≤ 9
+    ran-number = rw (fed .number) ran-few
+
     pub ran-accepts : r .number ≡ 0 → ruleNumber s ≡ 0
     ran-accepts e = accepted-runs (sym (fed .number) ∙ e) .0
 

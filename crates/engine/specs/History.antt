@@ -2,9 +2,9 @@
 use Prim.Native.Nat.{ℕ}
 use mathlib.Core.Bool.{cond}
 use mathlib.Core.List.{List, [], _∷_, _++_}
-use lib.Dec.{eqb, ltb}
+use lib.Dec.{eqb}
 use Rattle.par.specs.Status.{statusByte}
-use Rattle.par.specs.Expr.{Expr, size}
+use Rattle.par.specs.Expr.{Expr}
 use Rattle.par.specs.Feed.{answer, after, Bytes}
 use Rattle.files.specs.Rule.{rule, ruleNumber}
 use Rattle.engine.specs.declared.Desk.{Desk}
@@ -57,20 +57,15 @@ pub data Book : Type 0 where
   closed : Book
   «open» : Expr → List ℕ → Book
 
--- the number of a step: 16 where the remainder would have more than 4,096 nodes
-abbrev pub stepNumber : Expr → List ℕ → ℕ → ℕ
-stepNumber x feed a = cond (ltb 4096 (size (after x (feed ++ (a ∷ []))))) 16 0
-
 abbrev pub bookAfter : Book → Call → Book
 bookAfter b (opening s) = cond (eqb (ruleNumber s) 0) («open» (rule s) []) b
 bookAfter closed (stepping a) = closed
-bookAfter («open» x feed) (stepping a) = cond (eqb (stepNumber x feed a) 0) («open» x (feed ++ (a ∷ []))) («open» x feed)
+bookAfter («open» x feed) (stepping a) = «open» x (feed ++ (a ∷ []))
 
 abbrev pub bookBack : Book → Call → Back
 bookBack b (opening s) = numbered (ruleNumber s)
 bookBack closed (stepping a) = replied (refusal 15)
-bookBack («open» x feed) (stepping a) =
-    replied (cond (eqb (stepNumber x feed a) 0) (record { number = 0; answer = answer (after x feed) a }) (refusal 16))
+bookBack («open» x feed) (stepping a) = replied (record { number = 0; answer = answer (after x feed) a })
 
 unfoldable pub booksBack : Book → List Call → List Back
 booksBack b [] = []

@@ -144,6 +144,9 @@ accepted-pairs = accepted.accepted-pairs
 
 -- ---- A rule file is opened with the file's number, then 8 exactly where the rule's size is above 64, which the capped size decides
 
+pub rule-number : (s : List ℕ) → ruleNumber s ≤ 8
+rule-number = RuleNumbers.rule-number
+
 pub rule-number-0 : (s : List ℕ) → (ruleNumber s ≡ 0) ↔ ((reading s .number ≡ 0) × (size (rule s) ≤ 64))
 rule-number-0 = RuleNumbers.rule-number-0
 

@@ -10,7 +10,7 @@ use lib.Dec.{eqb, ltb}
 use Rattle.par.specs.declared.Node.{Node}
 use Rattle.par.specs.Expr.{size}
 use Rattle.par.specs.Records.{expr}
-use Rattle.records.proofs.Tests.{cond-case}
+use Rattle.records.proofs.Tests.{cond-case, cond-all}
 use Rattle.files.specs.Reading.{reading}
 use Rattle.files.specs.Rule.{rule, cappedSize, ruleNumber}
 use Rattle.files.proofs.Readings.{reading-number}
@@ -56,6 +56,12 @@ module _ (s : List ℕ) where
 
   pub rule-number-0 : (ruleNumber s ≡ 0) ↔ ((reading s .number ≡ 0) × (size (rule s) ≤ 64))
   rule-number-0 = numbered-0 rule-numbered
+
+  pub rule-number : ruleNumber s ≤ 8
+  unfolding ruleNumber
+  rule-number =
+      cond-all (λ k. k ≤ 8) (eqb (reading s .number) 0) _ _ (cond-all (λ k. k ≤ 8) (ltb 64 (size (rule s))) 8 0 (omega arith) (omega arith))
+      (omega (arith, reading-number s))
 
   -- a file at fault is refused with its own number
   pub rule-number-refused : reading s .number ≢ 0 → ruleNumber s ≡ reading s .number

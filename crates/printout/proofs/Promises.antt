@@ -45,10 +45,6 @@ pub text-refused-file : (s : List ℕ) → length s ≤ 8192 → 2 ≤ length s 
     → ruleNumber (ruleIn s) ≢ 0 → text s ≡ refusedWord ++ decimal (ruleNumber (ruleIn s))
 text-refused-file = Texts.text-refused
 
--- The file's number is at most 8.
-pub number-few : (r : List ℕ) → ruleNumber r ≤ 8
-number-few = Texts.number-few
-
 -- ---- No text is longer than 131,048 bytes
 
 pub text-fits : (s : List ℕ) → length (text s) ≤ 131048

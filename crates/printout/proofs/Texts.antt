@@ -15,9 +15,8 @@ use Rattle.par.specs.Step.{status as statusOf, notices as noticesOf, remainder}
 use Rattle.par.proofs.Sets.{none-join}
 use Rattle.records.specs.Fields.{wordAt}
 use Rattle.records.proofs.Tests.{cond-case, cond-all}
-use Rattle.files.specs.Reading.{reading}
 use Rattle.files.specs.Rule.{rule, ruleNumber}
-use Rattle.files.proofs.Readings.{reading-number}
+use Rattle.files.proofs.RuleNumbers.{rule-number}
 use Rattle.engine.specs.declared.writing.Nodes.{Nodes}
 use Rattle.engine.specs.Means.{Own}
 use Rattle.engine.specs.WrittenOut.{nodesOf}
@@ -74,12 +73,6 @@ rule-text r small accepted events =
 pub nodes-number : (r : List ℕ) {n : Nodes} → n ≡ nodesOf r → n .number ≡ ruleNumber r
 unfolding nodesOf
 nodes-number r made = ap (λ (n : Nodes). n .number) made
-
-pub number-few : (r : List ℕ) → ruleNumber r ≤ 8
-unfolding ruleNumber
-number-few r =
-    let few = reading-number r in
-    cond-all (λ k. k ≤ 8) (eqb (reading r .number) 0) _ _ (cond-all (λ k. k ≤ 8) (ltb 64 (size (rule r))) 8 0 (omega arith) (omega arith)) (omega arith)
 
 take-below : (n : ℕ) (l : List ℕ) → ((i : ℕ) → getD l i 0 < 256) → (i : ℕ) → getD (take n l) i 0 < 256
 take-below zero l small i = omega arith
@@ -167,7 +160,7 @@ module _ (s : List ℕ) {k : ℕ} (is : k ≡ wordAt s 0 0) {n : Nodes} (made : 
   number-in = nodes-number (ruleIn s) nodes-in
 
   pub number-two-digits : n .number < 100
-  number-two-digits = omega (arith, number-few (ruleIn s), number-in)
+  number-two-digits = omega (arith, rule-number (ruleIn s), number-in)
 
   pub nodes-wide : (length (n .fixed) ≡ 64) × (length (n .sets) ≡ 64)
   nodes-wide = rw nodes-in (nodes-long (ruleIn s))
