@@ -10,8 +10,8 @@
  * list; 4 length isn't that kind's; 5 x or y isn't an earlier record; 6 same kind and body as an earlier record; 7 a record
  * follows the 1,024th, or a pair the 256th; 8 the rule's size is above 64; 9 the place is past the answer buffer's end, or the
  * room is too small; 10 notices differ; 11 statuses differ; 12 a remainder isn't in the file; 13 the remainders are neither one
- * record nor listed; 14 a pair names a record that isn't there; 15 a step on a desk with no rule open; 16 the remainder would have
- * more than 4,096 nodes, shared parts written out (never given); 17 program input above 8,192 bytes.
+ * record nor listed; 14 a pair names a record that isn't there; 15 a step on a desk with no rule open; 17 program input above
+ * 8,192 bytes. 16 isn't used.
  */
 #ifndef MEADWHISTLE_H
 #define MEADWHISTLE_H

@@ -1,5 +1,6 @@
 //! The desk: one rule, moved on event by event.
 
+use crate::figures::react;
 use crate::number::Number;
 use crate::rule;
 use crate::status::Status;
@@ -17,17 +18,6 @@ pub struct StepOutcome {
     pub notices: u16,
     pub status: Status,
     pub lines: u64,
-}
-
-impl StepOutcome {
-    fn refused(number: Number) -> StepOutcome {
-        StepOutcome {
-            number,
-            notices: 0,
-            status: Status::Waiting,
-            lines: 0,
-        }
-    }
 }
 
 impl Desk {
@@ -49,19 +39,20 @@ impl Desk {
     /// One event. A finished rule stays open: what remains of it is silent.
     pub fn step(&mut self, event: u8) -> StepOutcome {
         let Some(rule) = &self.open else {
-            return StepOutcome::refused(Number::NoRuleOpen);
+            return StepOutcome {
+                number: Number::NoRuleOpen,
+                notices: 0,
+                status: Status::Waiting,
+                lines: 0,
+            };
         };
-        match rule::advance(rule, event) {
-            Ok(reaction) => {
-                self.open = Some(reaction.remainder);
-                StepOutcome {
-                    number: Number::Accepted,
-                    notices: reaction.notices,
-                    status: reaction.status,
-                    lines: reaction.lines,
-                }
-            }
-            Err(number) => StepOutcome::refused(number),
+        let reaction = react(rule, event);
+        self.open = Some(reaction.remainder);
+        StepOutcome {
+            number: Number::Accepted,
+            notices: reaction.notices,
+            status: reaction.status,
+            lines: reaction.lines,
         }
     }
 }

@@ -41,7 +41,7 @@ fn answers(
     if room / ANSWER_LENGTH < events.len() {
         return Err(Number::NoRoom);
     }
-    let reactions = rule::advance_through(&rule, events)?;
+    let reactions = rule::react_to_all(&rule, events);
     Ok(reactions.iter().flat_map(answer_record).collect())
 }
 

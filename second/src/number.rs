@@ -1,4 +1,4 @@
-//! The refusal numbers.
+//! The refusal numbers. 16 was one, and isn't used again.
 
 use std::fmt;
 
@@ -22,7 +22,6 @@ pub enum Number {
     RemaindersNotListed = 13,
     PairNamesNoRecord = 14,
     NoRuleOpen = 15,
-    RemainderTooLarge = 16,
     InputTooLong = 17,
 }
 

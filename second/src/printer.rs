@@ -14,7 +14,7 @@ pub fn printed(input: &[u8]) -> String {
 fn answers(input: &[u8]) -> Result<String, Number> {
     let (rule_file, events) = split(input)?;
     let rule = rule::read_running_rule(rule_file)?;
-    let reactions = rule::advance_through(&rule, events)?;
+    let reactions = rule::react_to_all(&rule, events);
     let mut text = format!("rule {}\n", rule.size());
     for (event, reaction) in events.iter().zip(reactions) {
         let notices = reaction.notices;

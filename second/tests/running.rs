@@ -4,30 +4,28 @@ use second::desk::{Desk, StepOutcome};
 use second::examples::swap_file;
 use second::expression_file;
 use second::feed;
+use second::figures::react;
 use second::generate::feeds::{printer_input, random_feed, random_printer_input};
 use second::generate::limits::{chain_of_nots, doubling};
-use second::number::Number::{self, *};
+use second::number::Number::*;
 use second::printer::printed;
 use second::random::Random;
-use second::rule::advance;
 use second::status::Status::*;
-use second::tree::build::{either, event, not, repeat};
+use second::tree::build::{event, repeat};
 
-fn refused_step(number: Number) -> StepOutcome {
-    StepOutcome {
-        number,
-        notices: 0,
-        status: Waiting,
-        lines: 0,
-    }
-}
+const REFUSED_STEP: StepOutcome = StepOutcome {
+    number: NoRuleOpen,
+    notices: 0,
+    status: Waiting,
+    lines: 0,
+};
 
 #[test]
 fn a_step_on_an_empty_desk_is_refused() {
     let mut desk = Desk::empty();
-    assert_eq!(desk.step(b'o'), refused_step(NoRuleOpen));
+    assert_eq!(desk.step(b'o'), REFUSED_STEP);
     assert_eq!(desk.open(&[]), EmptyFile);
-    assert_eq!(desk.step(b'o'), refused_step(NoRuleOpen));
+    assert_eq!(desk.step(b'o'), REFUSED_STEP);
 }
 
 #[test]
@@ -79,36 +77,34 @@ fn the_order_of_refusals_of_a_feed() {
     assert_eq!(refused(&swap_file(), 0), NoRoom);
 }
 
-/// The largest remainder a rule of each size can come to, by the sizes in figure 4.
-///
-/// It follows the parts: a waiting repeat adds itself behind what remains of its part.
+fn largest_remainder(size: u64) -> u64 {
+    (size * size + 3 * size - 2) / 2
+}
+
+/// By the sizes in figure 4, over the parts: a waiting repeat adds itself behind what remains of its
+/// part, and of two parts no more remains than the most of each.
 #[test]
-fn no_running_rule_leaves_a_remainder_that_is_too_large() {
+fn the_largest_remainder_of_each_size() {
     let mut most = vec![0, 1];
-    for size in 2..=64usize {
-        let over_one = (most[size - 1] + 1).max(most[size - 1] + 1 + size);
-        let over_two = (1..size - 1)
-            .map(|first| {
-                let second = size - 1 - first;
-                (most[first] + 1 + most[second]).max(most[first] + 1 + second)
-            })
-            .max();
-        most.push(over_one.max(over_two.unwrap_or(0)));
+    for size in 2..=64 {
+        let over_one = most[size - 1] + 1 + size as u64;
+        let over_two = (1..size - 1).map(|first| most[first] + 1 + most[size - 1 - first]);
+        most.push(over_two.fold(over_one, u64::max));
     }
-    assert!(most[64] < 2200);
+    let expected: Vec<u64> = (1..=64).map(largest_remainder).collect();
+    assert_eq!(most[1..], expected);
+    assert_eq!(most[64], 2143);
 }
 
 #[test]
-fn remainders_of_4096_and_4097_nodes() {
-    let mut part = event(b'a');
-    while part.size() < 2047 {
-        part = either(&part, &part);
+fn repeats_around_an_event_leave_the_largest_remainder() {
+    let mut rule = event(b'a');
+    for size in 1..=64 {
+        assert_eq!(rule.size(), size);
+        let remainder = react(&rule, b'b').remainder;
+        assert_eq!(remainder.size(), largest_remainder(size));
+        rule = repeat(&rule);
     }
-    let rule = repeat(&part);
-    let reaction = advance(&rule, b'b').unwrap();
-    assert_eq!(reaction.remainder.size(), 4096);
-    let refused = advance(&not(&rule), b'b');
-    assert_eq!(refused.unwrap_err(), RemainderTooLarge);
 }
 
 #[test]

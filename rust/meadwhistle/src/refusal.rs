@@ -86,8 +86,7 @@ refusals! {
     13 RemaindersNotListed "the remainders are neither one record nor listed",
     14 PairNamesNoRecord "a pair names a record that isn't there",
     15 NoRuleOpen "a step on a desk with no rule open",
-    // In the table, but proved never to be given.
-    16 RemainderTooLarge "the remainder would have more than 4,096 nodes, shared parts written out",
+    // 16 was a number once, and isn't used again.
     17 InputTooLong "program input above 8,192 bytes",
 }
 

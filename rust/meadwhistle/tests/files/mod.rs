@@ -7,6 +7,7 @@ pub fn record(kind: u8, body: &[u8]) -> Vec<u8> {
     bytes
 }
 
+#[allow(dead_code)] // a test may have no pairs of its own
 pub fn pair(left: u8, right: u8) -> Vec<u8> {
     record(16, &[left, 0, right, 0])
 }
