@@ -196,7 +196,7 @@ alone-not-enough k some b l =
 pub size-after : (x : Expr) (feed : List ℕ) → size (after x feed) ≤ mostNodes (size x)
 size-after = Growth.size-after
 
--- No lower bound holds at any size from 1 on: repeats around an event reach it, on any other event.
+-- No lower one holds, at any size from 1 on: repeats around an event reach it, on any other event.
 pub size-reached : (b a : ℕ) → a ≢ b → (k : ℕ)
     → (size (repeats k (event b)) ≡ suc k) × (size (after (repeats k (event b)) (a ∷ [])) ≡ mostNodes (suc k))
 size-reached = Growth.size-reached
