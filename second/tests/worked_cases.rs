@@ -1,7 +1,8 @@
 //! The fixed sequence of worked cases, and the lines that answer it.
 
-use std::collections::{HashMap, HashSet};
+use std::collections::{BTreeSet, HashMap, HashSet};
 
+use second::compare::{mix, Input};
 use second::construct::Construct::*;
 use second::examples::swap_file;
 use second::worked::answers::{answer, answers};
@@ -114,6 +115,20 @@ fn every_number_comes_from_three_different_inputs() {
         }
     }
     assert!(inputs.is_empty(), "{:?}", inputs.keys());
+}
+
+/// Those that `./test` compares.
+#[test]
+fn random_inputs_bring_up_every_number_and_no_other() {
+    let mut numbers = BTreeSet::new();
+    for input in mix::inputs(25_000, 1) {
+        if let Input::Case(case) = input {
+            let lines = answer(&case);
+            numbers.extend(lines.lines().filter_map(told).map(|(_, number)| number));
+        }
+    }
+    let expected = (0..=15).chain([17]);
+    assert_eq!(Vec::from_iter(numbers), Vec::from_iter(expected));
 }
 
 #[test]

@@ -1,5 +1,4 @@
--- How large a remainder can get: at most `mostNodes n` for a rule of n nodes, whatever the feed, and so large one event makes it where the rule
--- is repeats around another.
+-- Of a rule of n nodes at most `mostNodes n` remain, whatever the feed. Of repeats around an event so many remain after any other event.
 use Prim.Native.Nat.{ℕ, zero, suc, _+_, _*_, _≤_, max}
 use mathlib.Core.Path.{_≡_, refl}
 use mathlib.Core.List.{List, [], _∷_}
