@@ -3,16 +3,18 @@ use Prim.Native.Nat.{ℕ, zero, suc, _+_, _-_, _≤_, _<_}
 use mathlib.Core.Path.{_≡_, refl, _∙_}
 use mathlib.Core.List.{List}
 use native.Mathlib.Omega.{arith}
+use native.Mathlib.Nat.{le-refl}
 use lib.Dec.{eqb}
 use lib.ListN.{length, getD, set, length-set}
 use lib.Seq.{getD-set-other}
 use borrow.Author.Tests.{eqb-true}
 use Rattle.par.specs.declared.Status.{Status}
 use Rattle.par.specs.declared.Status.the-variants.{Waiting, Success, Failure}
+use Rattle.par.proofs.Lines.{try-most}
 use Rattle.engine.specs.declared.ways.Route.{Route}
 use Rattle.engine.specs.declared.ways.Route.the-variants.{Silent, Event, One, Both, First, Second}
 use Rattle.engine.specs.Nodes.{kindAt, firstAt, secondAt}
-use Rattle.engine.specs.Moves.{zeroed, freshened, phasesOn, Made, taken, stepped}
+use Rattle.engine.specs.Moves.{zeroed, freshened, phasesOn, bothLines, Made, taken, stepped}
 use Rattle.engine.proofs.Tests.{by-test}
 use Rattle.engine.proofs.Phases.{zeroed-long, zeroed-below, zeroed-above}
 use Rattle.engine.proofs.Routes.{InFirst, InBoth, Placed, routeAt, placed}
@@ -70,6 +72,10 @@ module _ (kind lo x y r : ℕ) (at : InFirst lo x r) (five : kind ≡ 5 → InBo
 
 -- ---- a step
 
+both-most : (kind : ℕ) (s : Status) (n m : ℕ) → bothLines kind s n m ≤ n + m + 1
+unfolding bothLines
+both-most kind s n m = by-test (λ l. l ≤ n + m + 1) (eqb kind 4) (λ _. le-refl (n + m + 1)) (λ _. try-most s n m)
+
 pub record Bounded (lo r : ℕ) (P : List ℕ) (m : Made) : Type 0 where
   pub few : m .lines ≤ r + 1 - lo
   pub same : Same lo r P (m .phases)
@@ -96,8 +102,9 @@ module _ (S : List ℕ) (a : ℕ) (go : ℕ → ℕ → List ℕ → ℕ → Mad
       let c = ih (x + 1) y (m .phases) (m .sent) (omega arith) in
       let few = b .few in
       let few′ = c .few in
+      let k = go (x + 1) y (m .phases) (m .sent) in
       record {
-        few = omega arith;
+        few = omega (arith, both-most kind (m .status) (m .lines) (k .lines));
         same = same-on (same-wider (omega arith) (omega arith) (b .same)) (same-on (same-wider (omega arith) (omega arith) (c .same)) (same-set _ _ h));
       }
   taken-bounded First at =

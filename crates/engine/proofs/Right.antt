@@ -14,8 +14,8 @@ use Rattle.par.specs.Expr.{Expr.not as Not, Expr.either as Either, Expr.then as
 use Rattle.par.specs.Step.{pushed, status as statusOf, lines as linesOf, notices as noticesOf, remainder}
 use Rattle.par.proofs.Sets.{join-assoc, join-none}
 use Rattle.engine.specs.Nodes.{kindAt, firstAt, secondAt}
-use Rattle.engine.specs.Moves.{oneStatus, bothStatus, onePhase, bothPhase, told, phasesOn, sentOn, Made, oneEnd, bothEnd, taken, stepped}
-use Rattle.engine.specs.Moves.{worded, Steps}
+use Rattle.engine.specs.Moves.{oneStatus, bothStatus, bothLines, onePhase, bothPhase, told, phasesOn, sentOn, Made}
+use Rattle.engine.specs.Moves.{oneEnd, bothEnd, taken, stepped, worded, Steps}
 use Rattle.engine.specs.Means.{Means}
 use Rattle.engine.specs.Means.{Means.silent, Means.event, Means.not, Means.either-both, Means.either-first, Means.either-second}
 use Rattle.engine.specs.Means.{Means.then-first, Means.then-second, Means.repeat-fresh, Means.repeat-going, Means.notify}
@@ -79,7 +79,8 @@ module _ {F S : List ℕ} {a : ℕ} where
 
   -- after the steps of both
   both-told : {lo r lo′ sent : ℕ} {d e : Expr} (kind x y : ℕ) (u : Expr) (X Y : Made) → Told F S a lo x d sent X → Told F S a lo′ y e (X .sent) Y
-      → bothStatus kind (statusOf d a) (statusOf e a) ≡ statusOf u a → linesOf d a + linesOf e a + 1 ≡ linesOf u a
+      → bothStatus kind (statusOf d a) (statusOf e a) ≡ statusOf u a
+      → bothLines kind (statusOf d a) (linesOf d a) (linesOf e a) ≡ linesOf u a
       → join (noticesOf d a) (noticesOf e a) ≡ noticesOf u a
       → (statusOf u a ≡ Waiting → Means F S (set (Y .phases) r (bothPhase kind (statusOf d a) (statusOf e a))) lo r (remainder u a))
       → Told F S a lo r u sent (bothEnd kind r X Y)
@@ -99,7 +100,7 @@ module _ {F S : List ℕ} {a : ℕ} where
 module _ (F S : List ℕ) (a : ℕ) where
   tell : (f : ℕ) {P : List ℕ} {lo r : ℕ} {e : Expr} → Means F S P lo r e → r < f → r < length P → (sent : ℕ)
       → Told F S a lo r e sent (stepped F S a f lo r P sent)
-  unfolding oneStatus bothStatus statusOf linesOf noticesOf remainder
+  unfolding oneStatus bothStatus bothLines statusOf linesOf noticesOf remainder
   tell zero m h l sent = absurd (omega arith)
   tell (suc f) {P} {lo} {r} (silent at) h l sent =
       rw (step-own F S a lo r P sent (silent at) f 1 (getD P r 0) (at .kind-is) refl)

@@ -9,7 +9,7 @@ use Rattle.par.specs.declared.Status.{Status}
 use Rattle.par.specs.declared.Status.the-variants.{Waiting, Success, Failure}
 use Rattle.par.specs.Status.{opposite, higher, lower, tried}
 use Rattle.par.specs.Expr.{join}
-use Rattle.par.specs.Step.{met}
+use Rattle.par.specs.Step.{met, tryLines}
 use Rattle.engine.specs.declared.ways.Route.{Route}
 use Rattle.engine.specs.declared.ways.Route.the-variants.{Silent, Event, One, Both, First, Second}
 use Rattle.engine.specs.Nodes.{kindAt, firstAt, secondAt}
@@ -71,6 +71,10 @@ pairPhase kind s Failure = 1
 unfoldable pub bothPhase : ℕ → Status → Status → ℕ
 bothPhase kind s t = pairPhase kind s t
 
+-- from the first part's status and both parts' lines
+unfoldable pub bothLines : ℕ → Status → ℕ → ℕ → ℕ
+bothLines kind s n m = cond (eqb kind 4) (n + m + 1) (tryLines s n m)
+
 -- ---- what the success of a first part sets going
 
 -- P with n phases from i on set to 0
@@ -123,8 +127,8 @@ oneEnd S kind lo x y r m =
 
 abbrev pub bothEnd : ℕ → ℕ → Made → Made → Made
 bothEnd kind r m k =
-    made (bothStatus kind (m .status) (k .status)) (m .lines + k .lines + 1) (set (k .phases) r (bothPhase kind (m .status) (k .status)))
-    (k .sent)
+    made (bothStatus kind (m .status) (k .status)) (bothLines kind (m .status) (m .lines) (k .lines))
+    (set (k .phases) r (bothPhase kind (m .status) (k .status))) (k .sent)
 
 -- a node, by its route, where `go lo r P sent` steps its parts
 abbrev pub taken : (ℕ → ℕ → List ℕ → ℕ → Made) → List ℕ → ℕ → Route → ℕ → ℕ → ℕ → ℕ → ℕ → List ℕ → ℕ → Made

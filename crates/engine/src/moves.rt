@@ -5,7 +5,7 @@ ghost use mathlib.Core.Path.{_≡_};
 ghost use Prim.Native.Nat.{ℕ, _-_, _<_, _≤_};
 ghost use lib.ListN.{length};
 ghost use Rattle.engine.specs.Nodes.{packed};
-ghost use Rattle.engine.specs.Moves.{zeroed, freshened, told, wordStatus, wordLines, worded, oneEnd, bothEnd, Steps};
+ghost use Rattle.engine.specs.Moves.{zeroed, freshened, told, wordStatus, wordLines, worded, bothLines, oneEnd, bothEnd, Steps};
 use crate::ways;
 use crate::ways::Route;
 use par::Notices;
@@ -104,6 +104,21 @@ fn one_end(
     close_word(ways::one_status(kind, s), w / 4 + 1)
 }
 
+// The lines of either and of try, from those of the parts. A try whose first part completed, with the status s, leaves the second's out.
+fn both_lines(kind: u32, s: Status, n: u64, m: u64) -> u64
+    requires { ⌜ (n < 400) × (m < 400) ⌝ }
+    ensures { λ l. ⌜ (l ≡ bothLines kind s n m) × (l < 1000) ⌝ }
+{
+    if kind == 4 {
+        return n + m + 1;
+    }
+    match s {
+        Status::Waiting => n + m + 1,
+        Status::Success => n + 1,
+        Status::Failure => n + 1,
+    }
+}
+
 // Node r after the steps of both its parts, which gave the words w and v.
 fn both_end(phases: &mut [u8; 64], kind: u32, r: usize, w: u64, v: u64) -> u64
     requires { ⌜ (r < 64) × (length (now phases) ≡ 64) × ((wordLines w < 400) × (wordLines v < 400)) ⌝ }
@@ -112,7 +127,7 @@ fn both_end(phases: &mut [u8; 64], kind: u32, r: usize, w: u64, v: u64) -> u64
     let s = word_status(w);
     let t = word_status(v);
     phases[r] = ways::both_phase(kind, s, t);
-    close_word(ways::both_status(kind, s, t), w / 4 + v / 4 + 1)
+    close_word(ways::both_status(kind, s, t), both_lines(kind, s, w / 4, v / 4))
 }
 
 // One event on node r, whose nodes stand from `lo` on: the word of its status and lines. Its notices are joined to `sent`.

@@ -4,6 +4,7 @@ pub mod Order
 pub mod Tables
 pub mod Sets
 pub mod Figure3
+pub mod Lines
 pub mod Figure4
 pub mod Figure5
 pub mod Silence

@@ -9,7 +9,7 @@ use Rattle.par.specs.declared.Node.{Node}
 use Rattle.par.specs.Status.{higher, lower, tried, rank}
 use Rattle.par.specs.Expr.{Expr, join, size}
 use Rattle.par.specs.Expr.{Expr.silent, Expr.event, Expr.not, Expr.either, Expr.then, Expr.repeat, Expr.notify, Expr.try}
-use Rattle.par.specs.Figures.{Completes, Becomes, Sends, Completes.αSel}
+use Rattle.par.specs.Figures.{Completes, rulesUsed, Becomes, Sends, Completes.αSel}
 use Rattle.par.specs.Step.{status, notices, remainder, lines, made}
 use Rattle.par.specs.Feed.{answers, after, noticesOn, statusesOn, Bytes}
 use Rattle.par.specs.Like.{Like, Swapped, Closed}
@@ -22,6 +22,7 @@ use Rattle.par.specs.Records.{expr, File}
 use Rattle.par.proofs.Order
 use Rattle.par.proofs.Sets
 use Rattle.par.proofs.Figure3
+use Rattle.par.proofs.Lines
 use Rattle.par.proofs.Figure4
 use Rattle.par.proofs.Figure5
 use Rattle.par.proofs.Silence.{nothing}
@@ -60,6 +61,10 @@ one-remainder x a = (figure-4 x a (remainder x a) .1 refl, λ x' p. sym (figure-
 
 pub one-notice-set : (x : Expr) (a : ℕ) → Sends x a (notices x a) × ((o : ℕ) → Sends x a o → o ≡ notices x a)
 one-notice-set x a = (figure-5 x a (notices x a) .1 refl, λ o p. sym (figure-5 x a o .0 p))
+
+-- The lines of a step are the rules of figure 3 that it uses, in whatever way its status is derived.
+pub lines-are-rules : {x : Expr} {a : ℕ} {c : Status} (p : Completes x a c) → lines x a ≡ rulesUsed p
+lines-are-rules = Lines.lines-are-rules
 
 -- The two tables of the code are figure 3's rules for two parts.
 pub either-table : {x y : Expr} {a : ℕ} {c d : Status} → Completes x a c → Completes y a d → Completes (either x y) a (higher c d)

@@ -8,6 +8,7 @@ use Rattle.par.specs.Expr.{Expr, size}
 use Rattle.par.specs.Expr.{Expr.silent, Expr.event, Expr.not, Expr.either, Expr.then, Expr.repeat, Expr.notify, Expr.try}
 use Rattle.par.specs.Step.{status, remainder, met, lines, made}
 use Rattle.par.specs.Feed.{after}
+use Rattle.par.proofs.Lines.{try-most}
 use Rattle.par.proofs.Measures.{kept-le, then-le, either-le, try-le, feed-le}
 
 -- what a step costs, taken so that no step makes it greater: the second part of `then` counts too, as it may come to step
@@ -83,7 +84,7 @@ lines-weight (either x y) a = omega (arith, lines-weight x a, lines-weight y a)
 lines-weight (then x y) a = omega (arith, lines-weight x a)
 lines-weight (repeat x) a = omega (arith, lines-weight x a)
 lines-weight (notify x A) a = omega (arith, lines-weight x a)
-lines-weight (try x y) a = omega (arith, lines-weight x a, lines-weight y a)
+lines-weight (try x y) a = omega (arith, lines-weight x a, lines-weight y a, try-most (status x a) (lines x a) (lines y a))
 
 pub made-after : (e : Expr) (feed : List ℕ) → made (after e feed) < size e
 made-after e feed = omega (arith, made-weight (after e feed), weight-after e feed)

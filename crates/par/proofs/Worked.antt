@@ -34,7 +34,7 @@ pub record Worked : Type 0 where
   pub swap-size : size swap ≡ 9
   pub P1-notices : noticesOn swap oacoawc ≡ 0 ∷ 0 ∷ 3 ∷ 0 ∷ 0 ∷ 0 ∷ 0 ∷ []
   pub P1-statuses : statusesOn swap oacoawc ≡ Waiting ∷ Waiting ∷ Waiting ∷ Waiting ∷ Waiting ∷ Failure ∷ Waiting ∷ []
-  pub P2 : linesOn swap (o ∷ a ∷ c ∷ []) ≡ 3 ∷ 6 ∷ 5 ∷ []
+  pub P2 : linesOn swap (o ∷ a ∷ c ∷ []) ≡ 3 ∷ 6 ∷ 4 ∷ []
   pub P3-notices : noticesOn supplier (o ∷ a ∷ w ∷ []) ≡ 0 ∷ 1 ∷ 0 ∷ []
   pub P3-statuses : statusesOn supplier (o ∷ a ∷ w ∷ []) ≡ Waiting ∷ Waiting ∷ Failure ∷ []
   pub P4 : statusesOn (try (event a) (event a)) (a ∷ []) ≡ Success ∷ []

@@ -1,7 +1,7 @@
 -- Figures 3, 4 and 5 of the paper, a constructor for each rule under the paper's name, with the rules for silent that its section 4
 -- displays beside them. The premises of figure 4 on an unfinished part are read with "and is waiting". A premise "does not complete
 -- with c" is read: completes with another status.
-use Prim.Native.Nat.{ℕ}
+use Prim.Native.Nat.{ℕ, _+_}
 use mathlib.Core.Logic.{_≢_}
 use Rattle.par.specs.declared.Status.{Status}
 use Rattle.par.specs.declared.Status.the-variants.{Waiting, Success, Failure}
@@ -53,3 +53,16 @@ pub data Sends : Expr → ℕ → ℕ → Type 0 where
   oTry : {x y : Expr} {a o u : ℕ} → Sends x a o → Sends y a u → Sends (try x y) a (join o u)
   oPush₁ : {x : Expr} {A a o : ℕ} → Sends x a o → Completes x a Success → Sends (notify x A) a (join o A)
   oPush₂ : {x : Expr} {A a o : ℕ} {c : Status} → Sends x a o → Completes x a c → c ≢ Success → Sends (notify x A) a o
+
+-- the rules that a derivation of figure 3 uses, each as often as it stands there
+unfoldable pub rulesUsed : {x : Expr} {a : ℕ} {c : Status} → Completes x a c → ℕ
+rulesUsed αSilent = 1
+rulesUsed αEv₁ = 1
+rulesUsed (αEv₂ n) = 1
+rulesUsed (αSeq p) = rulesUsed p + 1
+rulesUsed (αSel p q) = rulesUsed p + rulesUsed q + 1
+rulesUsed (αRep p) = rulesUsed p + 1
+rulesUsed (αPush p) = rulesUsed p + 1
+rulesUsed (αNeg p) = rulesUsed p + 1
+rulesUsed (αTry₁ p n) = rulesUsed p + 1
+rulesUsed (αTry₂ p q) = rulesUsed p + rulesUsed q + 1

@@ -1,4 +1,4 @@
--- What an expression does on one event: document 01's table as three functions, its rule under "Lines", and the nodes that a step makes.
+-- What an expression does on one event: document 01's table as three functions, the lines that a step uses, and the nodes that it makes.
 use Prim.Native.Nat.{ℕ, _+_}
 use mathlib.Core.Bool.{Bool, true, false}
 use lib.Dec.{eqb}
@@ -84,7 +84,13 @@ remainder (try x y) a = tryRest (status x a) (status y a) (remainder x a) (remai
 
 -- ---- what a step costs
 
--- the lines of the status rules that it uses
+-- the lines of `try x unless y` from x's status and both parts' lines: figure 3's rule for an x that completes asks nothing of y
+abbrev pub tryLines : Status → ℕ → ℕ → ℕ
+tryLines Waiting n m = n + m + 1
+tryLines Success n m = n + 1
+tryLines Failure n m = n + 1
+
+-- the lines of the status rules that it uses, as document 01 counts them, and for try document 02 (T-06)
 unfoldable pub lines : Expr → ℕ → ℕ
 lines silent a = 1
 lines (event b) a = 1
@@ -93,7 +99,7 @@ lines (either x y) a = lines x a + lines y a + 1
 lines (then x y) a = lines x a + 1
 lines (repeat x) a = lines x a + 1
 lines (notify x A) a = lines x a + 1
-lines (try x y) a = lines x a + lines y a + 1
+lines (try x y) a = tryLines (status x a) (lines x a) (lines y a)
 
 -- the nodes that it makes, at most: one for each construct around a part that steps; what is carried over as it stands costs none
 unfoldable pub made : Expr → ℕ

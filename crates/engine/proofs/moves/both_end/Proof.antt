@@ -18,11 +18,8 @@ element-write-phases c = search needs
 both-status-requires : tie.Need-both-status-requires
 both-status-requires c κs = search needs
 
-add-close-word : tie.Need-add-close-word
-add-close-word c = search needs
-
-add-close-word-2 : tie.Need-add-close-word-2
-add-close-word-2 c = search needs
+both-lines-requires : tie.Need-both-lines-requires
+both-lines-requires c κs = search needs
 
 close-word-requires : tie.Need-close-word-requires
 close-word-requires c κs = search needs
@@ -32,10 +29,11 @@ returns c = λ n.
     rw (
       c .close-word .ensures .0,
       c .close-word .ensures .1,
-      c .before .both-status .ensures,
-      c .before .before .both-phase .ensures,
-      c .before .before .before .word-status2 .ensures,
-      c .before .before .before .before .word-status .ensures,
+      c .before .both-lines .ensures .0,
+      c .before .before .both-status .ensures,
+      c .before .before .before .both-phase .ensures,
+      c .before .before .before .before .word-status2 .ensures,
+      c .before .before .before .before .before .word-status .ensures,
     )
 
 pub both-end-spec : {M : Type 1} → statement M
@@ -47,7 +45,6 @@ both-end-spec =
     both-phase-requires
     element-write-phases
     both-status-requires
-    add-close-word
-    add-close-word-2
+    both-lines-requires
     close-word-requires
     returns)
