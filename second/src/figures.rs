@@ -47,7 +47,7 @@ impl Reactor {
         let reaction = Reaction {
             status,
             notices: notices_by_figure_5(construct, &parts),
-            lines: lines(&parts),
+            lines: lines_by_figure_3(construct, &parts),
             // The rule (Silent): every expression becomes silent once it succeeds or fails.
             remainder: if status == Waiting {
                 remainder_by_figure_4(tree, &parts)
@@ -117,9 +117,15 @@ fn notices_by_figure_5(construct: &Construct<Tree>, parts: &[Reaction]) -> u16 {
     }
 }
 
-/// One line for the expression itself, beside those of the parts that were offered the event.
-fn lines(parts: &[Reaction]) -> u64 {
-    parts
+/// One line for the rule that gives the status, beside the lines of its premises.
+///
+/// The figure's first rule for try, where the try part completes, has no premise about the unless part.
+fn lines_by_figure_3(construct: &Construct<Tree>, parts: &[Reaction]) -> u64 {
+    let premises = match construct {
+        Try(..) if parts[0].status != Waiting => &parts[..1],
+        _ => parts,
+    };
+    premises
         .iter()
         .fold(1u64, |sum, part| sum.saturating_add(part.lines))
 }

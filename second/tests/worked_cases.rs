@@ -147,7 +147,7 @@ fn answer_lines_have_the_form_described() {
     calls.extend([Call::Step(b'c'), Call::Step(b'o'), Call::Step(b'w')]);
     assert_eq!(
         answer(&Case::Desk(calls)),
-        "step 15 0 0 0\nopen 2\nopen 0\nstep 0 0 0 3\nstep 0 0 0 6\nstep 0 3 0 5\n\
+        "step 15 0 0 0\nopen 2\nopen 0\nstep 0 0 0 3\nstep 0 0 0 6\nstep 0 3 0 4\n\
          step 0 0 0 3\nstep 0 0 2 6\n"
     );
     let claim = Case::claim(&[Event(b'a'), Silent, Not(0)], &[(0, 0), (0, 2)]);

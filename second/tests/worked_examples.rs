@@ -125,7 +125,7 @@ fn p2_lines_of_the_first_three_steps() {
         .into_iter()
         .map(|(_, _, lines)| lines)
         .collect();
-    assert_eq!(lines, [3, 6, 5]);
+    assert_eq!(lines, [3, 6, 4]);
 }
 
 #[test]

@@ -127,7 +127,8 @@ fn both_end(phases: &mut [u8; 64], kind: u32, r: usize, w: u64, v: u64) -> u64
     let s = word_status(w);
     let t = word_status(v);
     phases[r] = ways::both_phase(kind, s, t);
-    close_word(ways::both_status(kind, s, t), both_lines(kind, s, w / 4, v / 4))
+    let lines = both_lines(kind, s, w / 4, v / 4);
+    close_word(ways::both_status(kind, s, t), lines)
 }
 
 // One event on node r, whose nodes stand from `lo` on: the word of its status and lines. Its notices are joined to `sent`.

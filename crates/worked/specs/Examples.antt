@@ -117,7 +117,7 @@ P1 =
     (said 0 Waiting ++ said 0 Waiting ++ said 3 Waiting ++ said 0 Waiting ++ said 0 Waiting ++ said 0 Failure ++ said 0 Waiting)
 
 abbrev pub P2 : Row
-P2 = steps swapBytes (o ∷ a ∷ c ∷ []) (step 0 Waiting 3 ∷ step 0 Waiting 6 ∷ step 3 Waiting 5 ∷ [])
+P2 = steps swapBytes (o ∷ a ∷ c ∷ []) (step 0 Waiting 3 ∷ step 0 Waiting 6 ∷ step 3 Waiting 4 ∷ [])
 
 abbrev pub P3 : Row
 P3 = run supplierBytes (o ∷ a ∷ w ∷ []) (said 0 Waiting ++ said 1 Waiting ++ said 0 Failure)

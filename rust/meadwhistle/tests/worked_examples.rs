@@ -29,7 +29,7 @@ fn answers(desk: &mut Desk, events: &[u8]) -> Vec<(u16, Status, u64)> {
 fn the_swap_rule_notifies_at_the_confirmation() {
     let answers = answers(&mut opened(SWAP), b"oac");
     let waiting = Status::Waiting;
-    assert_eq!(answers, [(0, waiting, 3), (0, waiting, 6), (3, waiting, 5)]);
+    assert_eq!(answers, [(0, waiting, 3), (0, waiting, 6), (3, waiting, 4)]);
 }
 
 #[test]

@@ -15,11 +15,11 @@ both-phase-requires c κs = search needs
 element-write-phases : tie.Need-element-write-phases
 element-write-phases c = search needs
 
-both-status-requires : tie.Need-both-status-requires
-both-status-requires c κs = search needs
-
 both-lines-requires : tie.Need-both-lines-requires
 both-lines-requires c κs = search needs
+
+both-status-requires : tie.Need-both-status-requires
+both-status-requires c κs = search needs
 
 close-word-requires : tie.Need-close-word-requires
 close-word-requires c κs = search needs
@@ -29,8 +29,8 @@ returns c = λ n.
     rw (
       c .close-word .ensures .0,
       c .close-word .ensures .1,
-      c .before .both-lines .ensures .0,
-      c .before .before .both-status .ensures,
+      c .before .both-status .ensures,
+      c .before .before .both-lines .ensures .0,
       c .before .before .before .both-phase .ensures,
       c .before .before .before .before .word-status2 .ensures,
       c .before .before .before .before .before .word-status .ensures,
@@ -44,7 +44,7 @@ both-end-spec =
     word-status-requires-2
     both-phase-requires
     element-write-phases
-    both-status-requires
     both-lines-requires
+    both-status-requires
     close-word-requires
     returns)
