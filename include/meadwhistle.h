@@ -59,7 +59,10 @@ typedef struct {
     uint8_t phases[64];
 } meadwhistle_desk;
 
-/* What a step answers: the number and, at 0, the event's status, notices and lines; for 15 waiting, none and 0. */
+/*
+ * What a step answers: the number and, at 0, the event's status, notices and lines; for 15 waiting, none and 0. The lines are the rules
+ * of the paper's figure 3 that the status takes, each as often as it is used.
+ */
 typedef struct {
     uint8_t number;
     uint8_t status;

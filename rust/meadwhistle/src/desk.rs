@@ -34,7 +34,7 @@ pub struct Answer {
     pub notices: Notices,
     /// How far the rule has come.
     pub status: Status,
-    /// How many lines of the status rules this event used.
+    /// How many rules of the paper's figure 3 the status took, each as often as it was used.
     pub lines: u64,
 }
 
