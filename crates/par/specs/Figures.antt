@@ -1,6 +1,6 @@
 -- Figures 3, 4 and 5 of the paper, a constructor for each rule under the paper's name, with the rules for silent that its section 4
 -- displays beside them. The premises of figure 4 on an unfinished part are read with "and is waiting". A premise "does not complete
--- with c" is read: completes with another status.
+-- with c" is read: completes with another status. Last, how many rules a derivation of figure 3 uses.
 use Prim.Native.Nat.{ℕ, _+_}
 use mathlib.Core.Logic.{_≢_}
 use Rattle.par.specs.declared.Status.{Status}
@@ -54,7 +54,7 @@ pub data Sends : Expr → ℕ → ℕ → Type 0 where
   oPush₁ : {x : Expr} {A a o : ℕ} → Sends x a o → Completes x a Success → Sends (notify x A) a (join o A)
   oPush₂ : {x : Expr} {A a o : ℕ} {c : Status} → Sends x a o → Completes x a c → c ≢ Success → Sends (notify x A) a o
 
--- the rules that a derivation of figure 3 uses, each as often as it stands there
+-- the rules that a derivation of figure 3 uses, silent's too, each as often as it stands there
 unfoldable pub rulesUsed : {x : Expr} {a : ℕ} {c : Status} → Completes x a c → ℕ
 rulesUsed αSilent = 1
 rulesUsed αEv₁ = 1
