@@ -1,4 +1,4 @@
--- P1 to P4 of document 01, by computation.
+-- P1 to P4 of document 01, by computation. The lines of P2 are as T-06 of document 02 counts them.
 use Prim.Native.Nat.{ℕ}
 use mathlib.Core.Path.{_≡_, refl}
 use mathlib.Core.List.{List, [], _∷_}

@@ -1,4 +1,5 @@
--- P1 to P10 of document 01, "Worked examples", as one table: a row for each, with the bytes of its files and what comes back.
+-- P1 to P10 of document 01, "Worked examples", as one table: a row for each, with the bytes of its files and what comes back. The lines of P2
+-- are as T-06 of document 02 counts them.
 use Prim.Native.Nat.{ℕ}
 use mathlib.Core.Bool.{true}
 use mathlib.Core.List.{List, [], _∷_, _++_}
