@@ -72,7 +72,7 @@ module _ (kind lo x y r : ℕ) (at : InFirst lo x r) (five : kind ≡ 5 → InBo
 
 -- ---- a step
 
-both-most : (kind : ℕ) (s : Status) (n m : ℕ) → bothLines kind s n m ≤ n + m + 1
+pub both-most : (kind : ℕ) (s : Status) (n m : ℕ) → bothLines kind s n m ≤ n + m + 1
 unfolding bothLines
 both-most kind s n m = by-test (λ l. l ≤ n + m + 1) (eqb kind 4) (λ _. le-refl (n + m + 1)) (λ _. try-most s n m)
 

@@ -71,7 +71,7 @@ pairPhase kind s Failure = 1
 unfoldable pub bothPhase : ℕ → Status → Status → ℕ
 bothPhase kind s t = pairPhase kind s t
 
--- their lines, from the first part's status and both parts' lines
+-- the lines of either and of try, from the first part's status and both parts' lines
 unfoldable pub bothLines : ℕ → Status → ℕ → ℕ → ℕ
 bothLines kind s n m = cond (eqb kind 4) (n + m + 1) (tryLines s n m)
 

@@ -107,7 +107,7 @@ fn one_end(
 // The lines of either and of try, from those of the parts. A try whose first part completed, with the status s, leaves the second's out.
 fn both_lines(kind: u32, s: Status, n: u64, m: u64) -> u64
     requires { ⌜ (n < 400) × (m < 400) ⌝ }
-    ensures { λ l. ⌜ (l ≡ bothLines kind s n m) × (l < 1000) ⌝ }
+    ensures { λ l. ⌜ l ≡ bothLines kind s n m ⌝ }
 {
     if kind == 4 {
         return n + m + 1;

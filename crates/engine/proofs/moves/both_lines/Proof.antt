@@ -1,5 +1,4 @@
 -- `engine::moves::both_lines` meets its contract, status by status.
-use native.Mathlib.Omega.{arith}
 use borrow.Author.Needs.{needs}
 use Rattle.engine.specs.Moves.{bothLines}
 use Rattle.engine.proofs.Tests.{tests}
@@ -14,7 +13,7 @@ add-result-2 c = search needs
 
 returns : tie.Need-returns
 unfolding bothLines
-returns c = (search tests, omega arith)
+returns c = search tests
 
 enum-told : tie.Need-enum-told
 enum-told c = search needs
@@ -39,15 +38,15 @@ add-result-6 c = search needs
 
 returns-2 : tie.Need-returns-2
 unfolding bothLines
-returns-2 c = (search (tests, c .enum-told .given .1), omega arith)
+returns-2 c = search (tests, c .enum-told .given .1)
 
 returns-3 : tie.Need-returns-3
 unfolding bothLines
-returns-3 c = (search (tests, c .enum-told2 .given .1), omega arith)
+returns-3 c = search (tests, c .enum-told2 .given .1)
 
 returns-4 : tie.Need-returns-4
 unfolding bothLines
-returns-4 c = (search (tests, c .enum-told3 .given .1), omega arith)
+returns-4 c = search (tests, c .enum-told3 .given .1)
 
 pub both-lines-spec : {M : Type 1} → statement M
 both-lines-spec =
