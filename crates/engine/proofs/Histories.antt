@@ -13,27 +13,27 @@ use Rattle.engine.specs.declared.Desk.{Desk}
 use Rattle.engine.specs.declared.Moved.{Moved}
 use Rattle.engine.specs.Desk.{emptyDesk, freshDesk, openedOf}
 use Rattle.engine.specs.History.{Call, Call.opening, Call.stepping, Back.replied, BytesIn}
-use Rattle.engine.specs.History.{Book, Book.closed, Book.«open», bookAfter, bookBack, booksBack}
-use Rattle.engine.specs.History.{deskAfter, deskBack, desksBack}
+use Rattle.engine.specs.History.{Book, Book.closed, Book.«open», bookAfter, bookBack, booksAfter, booksBack}
+use Rattle.engine.specs.History.{deskAfter, deskBack, desksAfter, desksBack}
 use Rattle.engine.proofs.Desks.{closed-step}
 use Rattle.engine.proofs.Sitting.{Sitting, fresh-sits, step-sits, step-answers}
 
 -- ---- a desk and its book
 
-data Keeps (d : Desk) : Book → Type 0 where
+pub data Keeps (d : Desk) : Book → Type 0 where
   shut : d .is_open ≡ 0 → Keeps d closed
   sits : {x : Expr} {feed : List ℕ} → Sitting d x feed → Keeps d («open» x feed)
 
 -- after one call, both go on together
-record Together (d : Desk) (b : Book) (c : Call) : Type 0 where
+pub record Together (d : Desk) (b : Book) (c : Call) : Type 0 where
   back : deskBack d c ≡ bookBack b c
-  after : Keeps (deskAfter d c) (bookAfter b c)
+  pub after : Keeps (deskAfter d c) (bookAfter b c)
 
 open-keeps : (d e : Desk) (b c : Book) (t : Bool) → (t ≡ true → Keeps e c) → Keeps d b → Keeps (cond t e d) (cond t c b)
 open-keeps d e b c true k l = k refl
 open-keeps d e b c false k l = l
 
-opens : (d : Desk) (b : Book) (s : List ℕ) → Bytes s → Keeps d b → Together d b (opening s)
+pub opens : (d : Desk) (b : Book) (s : List ℕ) → Bytes s → Keeps d b → Together d b (opening s)
 unfolding openedOf
 opens d b s bytes k =
     record {
@@ -42,7 +42,7 @@ opens d b s bytes k =
           (λ e. sits (fresh-sits s bytes (eqb-true (ruleNumber s) 0 e))) k;
     }
 
-steps : (d : Desk) (b : Book) (a : ℕ) → Keeps d b → Together d b (stepping a)
+pub steps : (d : Desk) (b : Book) (a : ℕ) → Keeps d b → Together d b (stepping a)
 steps d closed a (shut e) = record { back = rw (closed-step d a e); after = shut (ap (λ (m : Moved). m .desk .is_open) (closed-step d a e) ∙ e) }
 steps d («open» x feed) a (sits s) = record { back = ap replied (step-answers d x feed s a); after = sits (step-sits d x feed s a) }
 
@@ -56,6 +56,15 @@ both (stepping a ∷ calls) d b bytes k =
     let now = steps d b a k in
     ap₂ (λ c cs. c ∷ cs) (now .back) (both calls _ _ bytes (now .after))
 
-pub history : (calls : List Call) → BytesIn calls → desksBack emptyDesk calls ≡ booksBack closed calls
+pub keeps-after : (calls : List Call) (d : Desk) (b : Book) → BytesIn calls → Keeps d b → Keeps (desksAfter d calls) (booksAfter b calls)
+unfolding desksAfter booksAfter
+keeps-after [] d b bytes k = k
+keeps-after (opening s ∷ calls) d b bytes k = keeps-after calls _ _ (bytes .1) (opens d b s (bytes .0) k .after)
+keeps-after (stepping a ∷ calls) d b bytes k = keeps-after calls _ _ bytes (steps d b a k .after)
+
+pub keeps-empty : Keeps emptyDesk closed
 unfolding emptyDesk
-history calls bytes = both calls emptyDesk closed bytes (shut refl)
+keeps-empty = shut refl
+
+pub history : (calls : List Call) → BytesIn calls → desksBack emptyDesk calls ≡ booksBack closed calls
+history calls bytes = both calls emptyDesk closed bytes keeps-empty

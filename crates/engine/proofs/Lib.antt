@@ -1,5 +1,5 @@
 -- Promises restates the main theorems. Right: one event is what the figures say. Safe, Untested: no test for misfits fires. RuleNodes: the nodes of
--- a file mean its rule. Runs, Desks, Sitting, Histories, DeskRuns: the whole feed and the desk. The others prove these and the code.
+-- a file mean its rule. Runs, Desks, Sitting, Histories, Costs, DeskRuns: the whole feed and the desk. The others prove these and the code.
 pub mod Promises
 pub mod Right
 pub mod Safe
@@ -9,6 +9,7 @@ pub mod Runs
 pub mod Desks
 pub mod Sitting
 pub mod Histories
+pub mod Costs
 pub mod DeskRuns
 pub mod Tests
 pub mod Words

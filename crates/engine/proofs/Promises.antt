@@ -17,7 +17,8 @@ use Rattle.engine.specs.Means.{Own, Means}
 use Rattle.engine.specs.WrittenOut.{nodesOf}
 use Rattle.engine.specs.Feed.{answerBytes, fedBytes, Fed}
 use Rattle.engine.specs.Desk.{emptyDesk, freshDesk, marked, openedOf, refusal, steppedOf}
-use Rattle.engine.specs.History.{Call, Call.stepping, BytesIn, Book.closed, desksBack, backBytes, booksBack}
+use Rattle.engine.specs.History.{Call, Call.stepping, BytesIn, Book.closed, desksAfter, desksBack, backBytes, booksAfter, booksBack}
+use Rattle.engine.specs.Cost.{ruleSize, WithinRule, NoneAccepted, LinesUpTo}
 use Rattle.engine.proofs.Right.{Good}
 use Rattle.engine.proofs.Right
 use Rattle.engine.proofs.RuleNodes
@@ -27,6 +28,7 @@ use Rattle.engine.proofs.Untested.{plain}
 use Rattle.engine.proofs.Sitting.{Sitting, byte-at}
 use Rattle.engine.proofs.Sitting
 use Rattle.engine.proofs.Histories
+use Rattle.engine.proofs.Costs
 use Rattle.engine.proofs.DeskRuns.{replies}
 use Rattle.engine.proofs.DeskRuns
 
@@ -112,10 +114,20 @@ pub run-is-desk : (s events : List ℕ) → Bytes s → (d : Desk) {place : ℕ}
     → r .number ≡ 0 → buffer' ≡ sets buffer place (backBytes (desksBack (openedOf d s .desk) (map stepping events)))
 run-is-desk = DeskRuns.run-is-desk
 
--- ---- No step grows dear: at most as many lines as the rule has nodes, and on any desk whatever at most 64
+-- ---- No step grows dear: on a desk made empty and changed by any openings and steps, every reply has at most as many lines as the rule that was
+-- accepted last has nodes
+
+pub step-within : (d : Desk) (a : ℕ) → WithinRule d (steppedOf d a .reply .answer .lines)
+step-within = Costs.step-within
+
+-- The last rule accepted in `calls` stays that of every later call, as long as none is accepted.
+pub history-lines : (calls later : List Call) → BytesIn calls → BytesIn later → NoneAccepted later
+    → LinesUpTo (ruleSize (booksAfter closed calls)) (desksBack (desksAfter emptyDesk calls) later)
+history-lines = Costs.history-lines
 
 pub step-lines : (d : Desk) (x : Expr) (feed : List ℕ) → Sitting d x feed → (a : ℕ) → steppedOf d a .reply .answer .lines ≤ size x
 step-lines = Sitting.step-lines
 
+-- On any desk whatever it has at most 64.
 pub reply-lines : (d : Desk) (a : ℕ) → steppedOf d a .reply .answer .lines ≤ 64
 reply-lines = Desks.reply-lines

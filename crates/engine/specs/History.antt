@@ -70,3 +70,7 @@ bookBack («open» x feed) (stepping a) = replied (record { number = 0; answer =
 unfoldable pub booksBack : Book → List Call → List Back
 booksBack b [] = []
 booksBack b (c ∷ calls) = bookBack b c ∷ booksBack (bookAfter b c) calls
+
+unfoldable pub booksAfter : Book → List Call → Book
+booksAfter b [] = b
+booksAfter b (c ∷ calls) = booksAfter (bookAfter b c) calls

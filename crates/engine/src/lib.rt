@@ -9,6 +9,7 @@ pub use feed::run;
 ghost use mathlib.Core.Path.{_≡_};
 ghost use lib.ListN.{length};
 ghost use Rattle.engine.specs.Desk.{emptyDesk, openedOf, steppedOf, Gives};
+ghost use Rattle.engine.specs.Cost.{WithinRule};
 use par::Answer;
 use par::Notices;
 use par::Status;
@@ -160,10 +161,12 @@ pub fn open(d: &mut Desk, rule: &[u8]) -> u8
     s.number
 }
 
-// Moves an open desk on by one event. 15 where no rule is open: then the desk is as it was.
+// Moves an open desk on by one event. 15 where no rule is open: then the desk is as it was. However many events went before, the reply has
+// at most as many lines as the rule has nodes.
 pub fn step(d: &mut Desk, event: u8) -> Reply
     ensures { λ r. ⌜ (r ≡ steppedOf (now (d .entry)) event .reply)
-        × (now (d .exit) ≡ steppedOf (now (d .entry)) event .desk) ⌝ }
+        × (now (d .exit) ≡ steppedOf (now (d .entry)) event .desk)
+        × WithinRule (now (d .entry)) (r .answer .lines) ⌝ }
 {
     move_on(
         d.is_open,

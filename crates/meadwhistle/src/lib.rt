@@ -2,6 +2,7 @@
 ghost use mathlib.Core.Path.{_≡_};
 ghost use Rattle.engine.specs.Feed.{Fed};
 ghost use Rattle.engine.specs.Desk.{emptyDesk, openedOf, steppedOf};
+ghost use Rattle.engine.specs.Cost.{WithinRule};
 ghost use Rattle.alike.specs.Verdict.{judged};
 ghost use Rattle.printout.specs.Text.{text as textOf};
 ghost use Rattle.printout.specs.Printed.{PrintedAs};
@@ -70,11 +71,12 @@ fn flat(reply: Reply) -> FlatReply
     }
 }
 
-// Moves an open desk on by one event; refused, the desk is as it was.
+// Moves an open desk on by one event, in at most as many lines as the rule has nodes; refused, the desk is as it was.
 #[no_mangle]
 pub extern "C" fn meadwhistle_desk_step(d: &mut Desk, event: u8) -> FlatReply
     ensures { λ r. ⌜ (r ≡ flatReply (steppedOf (now (d .entry)) event .reply))
-        × (now (d .exit) ≡ steppedOf (now (d .entry)) event .desk) ⌝ }
+        × (now (d .exit) ≡ steppedOf (now (d .entry)) event .desk)
+        × WithinRule (now (d .entry)) (r .lines) ⌝ }
 {
     let reply = engine::step(d, event);
     flat(reply)

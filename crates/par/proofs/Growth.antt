@@ -76,25 +76,25 @@ size-after e feed = omega (arith, size-bound (after e feed), feed-le bound bound
 
 -- ---- the bound is reached: each repeat waits, and adds itself behind what remains of its part
 
+pub repeats-size : (b k : ℕ) → size (repeats k (event b)) ≡ suc k
+unfolding repeats size
+repeats-size b zero = refl
+repeats-size b (suc k) = omega (arith, repeats-size b k)
+
 module _ (b a : ℕ) (other : a ≢ b) where
   repeats-wait : (k : ℕ) → status (repeats k (event b)) a ≡ Waiting
   unfolding repeats status
   repeats-wait zero = rw (other-event other)
   repeats-wait (suc k) = rw (repeats-wait k)
 
-  repeats-size : (k : ℕ) → size (repeats k (event b)) ≡ suc k
-  unfolding repeats size
-  repeats-size zero = refl
-  repeats-size (suc k) = omega (arith, repeats-size k)
-
   repeats-left : (k : ℕ) → 2 * size (remainder (repeats k (event b)) a) + 2 ≡ suc k * suc k + 3 * suc k
   unfolding repeats size remainder
   repeats-left zero = rw (other-event other)
-  repeats-left (suc k) = rw (repeats-wait k) (omega (arith, repeats-size k, repeats-left k, square-one (suc k)))
+  repeats-left (suc k) = rw (repeats-wait k) (omega (arith, repeats-size b k, repeats-left k, square-one (suc k)))
 
   pub size-reached : (k : ℕ) → (size (repeats k (event b)) ≡ suc k) × (size (after (repeats k (event b)) (a ∷ [])) ≡ mostNodes (suc k))
   unfolding after
-  size-reached k = (repeats-size k, omega (arith, repeats-left k))
+  size-reached k = (repeats-size b k, omega (arith, repeats-left k))
 
 -- ---- at size 64
 

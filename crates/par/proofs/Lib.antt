@@ -17,6 +17,7 @@ pub mod LikeSettings
 pub mod Measures
 pub mod Growth
 pub mod Weight
+pub mod Rounds
 pub mod Throughout
 pub mod LikeWidest
 pub mod Unnamed

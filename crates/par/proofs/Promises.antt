@@ -35,6 +35,7 @@ use Rattle.par.proofs.LikeSettings
 use Rattle.par.proofs.LikeWidest
 use Rattle.par.proofs.Growth
 use Rattle.par.proofs.Weight
+use Rattle.par.proofs.Rounds
 use Rattle.par.proofs.Throughout
 use Rattle.par.proofs.Unnamed
 use Rattle.par.proofs.Records
@@ -217,6 +218,10 @@ made-after = Weight.made-after
 
 pub lines-after : (x : Expr) (feed : List ℕ) (a : ℕ) → lines (after x feed) a ≤ size x
 lines-after = Weight.lines-after
+
+-- No lower one holds either: repeats around an event use so many at every step.
+pub lines-reached : (b k : ℕ) (feed : List ℕ) (a : ℕ) → lines (after (repeats k (event b)) feed) a ≡ size (repeats k (event b))
+lines-reached = Rounds.lines-reached
 
 pub notices-after : (k : ℕ) (x : Expr) (feed : List ℕ) (a : ℕ) → Fits k x → notices (after x feed) a < 2 ^ k
 notices-after = Throughout.notices-after-lt

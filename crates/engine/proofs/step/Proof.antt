@@ -1,6 +1,6 @@
 -- `engine::step` meets its contract: a walk of its MIR, by hand. The borrow is opened, two fields are read, four are lent to `move_on` for lifetimes of
 -- their own (`DeskParts`), and when these are over the desk is whole again and the borrow is closed.
--- All that the proof knows of `move_on` is that it meets its contract. That a step leaves the other fields is `stored`.
+-- All that the proof knows of `move_on` is that it meets its contract. That a step leaves the other fields is `stored`, that its lines are few `step-within`.
 -- Assumes nothing.
 use mathlib.Core.Path.{refl}
 use Prim.Native.Nat.{ℕ, _+_, _<_, _^_}
@@ -52,6 +52,7 @@ use Rattle.engine.proofs.Desk.Laws as T′
 use Rattle.engine.proofs.Reply as P
 use Rattle.engine.proofs.Reply.Laws as P′
 use Rattle.engine.proofs.Settling.{put, stored}
+use Rattle.engine.proofs.Costs.{step-within}
 use Rattle.engine.proofs.DeskParts.{deskV, Wide, wide}
 use Rattle.engine.proofs.DeskParts as parts
 use Rattle.engine.proofs.move_on as work
@@ -90,7 +91,7 @@ module _ {M : Type 1} (𝓤 : URA M) (H : Heap 𝓤) (A : Atoms 𝓤) (W : Given
       qed W (‵ (fobs γ (T.the-row .coded .code (put h phases done′))) ∷ ‵ (fbor κ (Body (mem T.the-row) b o γ)) ∷ ‵ (flft κ q) ∷ []) ∵
       suffices ! _
       (ends-at 𝓤 H A f.ended stayed (f.clauses 𝓤 H A at-mem run) W (((κ, tt), (q, tt), tt, x, at), tt) v r (put h phases done′, (tt, tt)) (tt, (tt, tt))) $
-      says ! (g .0, stored h n r phases done′ g) $ nothing ! $ move ! (3 ∷ 0 ∷ []) $ join ! $
+      says ! (g .0, stored h n r phases done′ g, rw (g .0) (step-within h n)) $ nothing ! $ move ! (3 ∷ 0 ∷ []) $ join ! $
       frame ! $ feqI ! (List Val) (vptr b o ∷ []) (vptr b o ∷ []) refl $ fjoin3 ! $ nothing ! $
       owned ! u8 (Is u8) (uint-makes 𝓤 H A W w8) n _ (refl, fits) $ fjoin ! $ move ! (1 ∷ 0 ∷ []) $ fjoin ! $
       owned ! P.the-row (Is P.the-row) (LL.makes P.the-type P′.the-plain 𝓤 H A) r _ is $ move ! (1 ∷ 0 ∷ []) $ done !

@@ -37,6 +37,7 @@ use denote.Triple.Table.{entered, cited}
 use denote.Triple.Walked.{says, Stays, gave-ref, stay-none, walkOf, AllGo, goes-none, goes-gave-ref, Walks, ends-at, walked, walk-meets}
 use denote.Exit.{yes}
 use Rattle.engine.specs.Desk.{steppedOf}
+use Rattle.engine.specs.Cost.{WithinRule}
 use Rattle.engine.specs.declared.Desk.{Desk}
 use Rattle.engine.specs.declared.Reply.{Reply}
 use Rattle.meadwhistle.specs.Flat.{flatReply}
@@ -89,13 +90,17 @@ module _ {M : Type 1} (𝓤 : URA M) (H : Heap 𝓤) (A : Atoms 𝓤) (W : Given
   Post = walkOf 𝓤 H A f.ended stayed (f.clauses 𝓤 H A mem run) .post (((κ, tt), (q, tt), tt, x, at), tt)
 
   exits : (d : Desk) (u : FlatReply) (v : Val) → Is R.the-row u (v ∷ []) → u ≡ flatReply (steppedOf h n .reply) → d ≡ steppedOf h n .desk
-      → ent 𝓤 (⋆ 𝓤 H A ((‵ (flft κ q) ⊛ ‵ ftrue) ∷ ‵ (fres γ (T.the-row .coded .code d)) ∷ [])) (Post v)
-  exits d u v is e e′ =
+      → WithinRule h (u .lines) → ent 𝓤 (⋆ 𝓤 H A ((‵ (flft κ q) ⊛ ‵ ftrue) ∷ ‵ (fres γ (T.the-row .coded .code d)) ∷ [])) (Post v)
+  exits d u v is e e′ few =
       qed W ((‵ (flft κ q) ⊛ ‵ ftrue) ∷ ‵ (fres γ (T.the-row .coded .code d)) ∷ []) ∵
       suffices ! _
       (ends-at 𝓤 H A f.ended stayed (f.clauses 𝓤 H A mem run) W (((κ, tt), (q, tt), tt, x, at), tt) v u (d, (tt, tt)) (tt, (tt, tt))) $
-      says ! (e, e′) $ frame ! $ nothing ! $ owned ! u8 (Is u8) (uint-makes 𝓤 H A W w8) n _ (refl, fits) $ fjoin ! $ move ! (1 ∷ 0 ∷ []) $ fjoin ! $
+      says ! (e, e′, few) $ frame ! $ nothing ! $ owned ! u8 (Is u8) (uint-makes 𝓤 H A W w8) n _ (refl, fits) $ fjoin ! $ move ! (1 ∷ 0 ∷ []) $ fjoin ! $
       owned ! R.the-row (Is R.the-row) (LL.makes R.the-type R′.the-plain 𝓤 H A) u _ is $ move ! (1 ∷ 0 ∷ []) $ done !
+
+  -- what `step` says of its reply and of the desk's last value
+  abbrev Said : Reply → Desk → Type 0
+  Said r d = (r ≡ steppedOf h n .reply) × (d ≡ steppedOf h n .desk) × WithinRule h (r .answer .lines)
 
   -- the call of `step`: it binds what this function binds
   abbrev to-step : Step 𝓤 H A mem run .Ghost
@@ -127,8 +132,8 @@ module _ {M : Type 1} (𝓤 : URA M) (H : Heap 𝓤) (A : Atoms 𝓤) (W : Given
         use1 W (later (some (λ (r : Reply). ((‵ (flft κ q) ⊛ ‵ ftrue) ⊛ ‵ (P.the-row .own r (w ∷ [])))
         ⊛ raw (ensured 𝓤 H A step.ended (step.clauses 𝓤 H A mem run) (κ, tt) x tt r)))) (id⊢ 𝓤 _) $ await ! tt $ pick ! (λ r.
         split ! $ move ! (1 ∷ []) $ use1 W (some (λ (zs : Desk × (Unit {0} × Unit {0})).
-        ‵ (lasts step.ended (κ, tt) x zs) ⊛ raw (fact 𝓤 ((r ≡ steppedOf h n .reply) × (zs .0 ≡ steppedOf h n .desk))))) (id⊢ 𝓤 _) $ pick ! (λ zs.
-        split ! $ move ! (1 ∷ []) $ heard ! ((r ≡ steppedOf h n .reply) × (zs .0 ≡ steppedOf h n .desk)) (λ e. fsplit ! $ move ! (1 ∷ []) $ drop ! $
+        ‵ (lasts step.ended (κ, tt) x zs) ⊛ raw (fact 𝓤 (Said r (zs .0))))) (id⊢ 𝓤 _) $ pick ! (λ zs.
+        split ! $ move ! (1 ∷ []) $ heard ! (Said r (zs .0)) (λ e. fsplit ! $ move ! (1 ∷ []) $ drop ! $
         move ! (1 ∷ []) $ split ! $ move ! (1 ∷ []) $ peeks ! P.the-row (Is P.the-row) (shows 𝓤 H A P.the-row) r (w ∷ []) (λ is.
         -- [0 what the reply owns; 1 the token; 2 the desk's last value; 3 _4; …; 5 room for _3; …; 7 _2; …; 9 _1; …; 11 room for _0; …]
         land ! (from ! (stop !)) (init ! 5 refl (LL.lawful P.the-type P′.the-laws 𝓤 H A W .typed r _ is .0)) $
@@ -143,7 +148,7 @@ module _ {M : Type 1} (𝓤 : URA M) (H : Heap 𝓤) (A : Atoms 𝓤) (W : Given
         returns ! (look ! 10 refl) $ forget ! 2 refl $ forget ! 4 refl $ forget ! 6 refl $ forget ! 8 refl $ forget ! 10 refl $
         move ! (10 ∷ 11 ∷ []) $ free1 ! $ move ! (8 ∷ 9 ∷ []) $ free1 ! $ move ! (6 ∷ 7 ∷ []) $ free1 ! $
         move ! (4 ∷ 5 ∷ []) $ free1 ! $ move ! (2 ∷ 3 ∷ []) $ free1 ! $ free0 ! $
-        by ! (exits (zs .0) u v is′ (e′ ∙ ap flatReply (e .0)) (e .1))))))))))))))))
+        by ! (exits (zs .0) u v is′ (e′ ∙ ap flatReply (e .0)) (e .1) (rw e′ (e .2)))))))))))))))))
 
 module _ {M : Type 1} (𝓤 : URA M) (H : Heap 𝓤) (A : Atoms 𝓤) (W : Given 𝓤 H A) (mem : Memory → SProp 𝓤) (run : Routine → Fun 𝓤) where
   step-walks : (C : Calls 𝓤 H) (Λ : Loops 𝓤 H) → FmC 𝓤 H (W .laws) C → Triple 𝓤 (C #engine·step) (Step 𝓤 H A mem run)
