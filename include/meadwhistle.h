@@ -61,7 +61,8 @@ typedef struct {
 
 /*
  * What a step answers: the number and, at 0, the event's status, notices and lines; for 15 waiting, none and 0. The lines are the rules
- * of the paper's figure 3 that the status takes, each as often as it is used.
+ * of the paper's figure 3 that the status takes, each as often as it is used; on a desk made by these calls they are never more than the
+ * nodes of the rule that was opened last, however many events went before.
  */
 typedef struct {
     uint8_t number;

@@ -154,14 +154,16 @@ fn three_ways_to_run_agree() {
         assert_eq!(desk.open(&given.rule_file), Accepted);
         let length = given.rule_file.len() as u16;
         let text = printed(&printer_input(length, &given.rule_file, &given.events));
-        let mut lines = text.lines().skip(1);
+        let mut lines = text.lines();
+        let size = lines.next().and_then(|first| first.strip_prefix("rule "));
+        let size: u64 = size.expect("a rule's size").parse().expect("a number");
         for (event, record) in given.events.iter().zip(buffer[given.place..end].chunks(7)) {
             let step = desk.step(*event);
             let [low, high] = step.notices.to_le_bytes();
             assert_eq!(record, [7, 0, 32, 0, low, high, step.status.byte()]);
             let line = format!("{event:02x} {high:02x}{low:02x} {}", step.status.word());
             assert_eq!(lines.next(), Some(&line[..]));
-            assert!(step.lines >= 1 && step.lines <= 64);
+            assert!(step.lines >= 1 && step.lines <= size);
         }
         assert_eq!(lines.next(), None);
     }

@@ -34,7 +34,8 @@ pub struct Answer {
     pub notices: Notices,
     /// How far the rule has come.
     pub status: Status,
-    /// How many rules of the paper's figure 3 the status took, each as often as it was used.
+    /// How many rules of the paper's figure 3 the status took, each as often as it was used: never more than the rule has nodes,
+    /// however many events went before.
     pub lines: u64,
 }
 
