@@ -1,19 +1,14 @@
 //! What grows with the rule's size, and whether anything grows with the feed's length.
 
-use std::hint::black_box;
-
 use meadwhistle::{Answer, Desk, Status};
 use second::examples::swap_file;
 
 use crate::feeds::STEADY;
 use crate::rules::{Family, EVENTS, FAMILIES, SIZES};
 use crate::text;
-use crate::timing::{taken, ROUNDS};
 use crate::ways::{self, Way, RUN, SECOND_RUN, STEP, STRAIGHTFORWARD, TABLE, TUNED};
 
 const LENGTHS: [usize; 5] = [1_000, 10_000, 100_000, 1_000_000, 10_000_000];
-const LONGEST: usize = LENGTHS[LENGTHS.len() - 1];
-const MILLION: usize = 1_000_000;
 
 pub fn report() {
     println!("Growth with the rule's size, a column each: {EVENTS} events");
@@ -23,7 +18,6 @@ pub fn report() {
         STEADY.name
     );
     with_length();
-    last_against_first();
 }
 
 fn with_size(family: &Family) {
@@ -50,7 +44,7 @@ fn stays_alive(rule: &[u8], feed: &[u8]) -> bool {
 
 fn with_length() {
     let ways = [RUN, STEP, TUNED, TABLE];
-    let feed = STEADY.events(LONGEST);
+    let feed = STEADY.events(LENGTHS[LENGTHS.len() - 1]);
     let times = LENGTHS.map(|length| ways::times(ways, &swap_file(), &feed[..length]));
     println!();
     text::line("events", &LENGTHS);
@@ -74,23 +68,4 @@ fn rows<const WAYS: usize>(ways: &[Way; WAYS], times: &[[f64; WAYS]]) {
             times[which]
         });
     }
-}
-
-/// Each million of a long feed on one desk.
-fn last_against_first() {
-    let feed = STEADY.events(LONGEST);
-    let mut least = [f64::INFINITY; LONGEST / MILLION];
-    for _ in 0..ROUNDS {
-        let mut desk = Desk::new();
-        assert_eq!(desk.open(&swap_file()), Ok(()));
-        for (part, least) in feed.chunks_exact(MILLION).zip(&mut least) {
-            *least = least.min(taken(|| {
-                for event in part {
-                    let _ = black_box(desk.step(*event));
-                }
-            }));
-        }
-    }
-    let ratio = least[least.len() - 1] / least[0];
-    text::figures("  the last million steps / the first", &[ratio]);
 }

@@ -10,6 +10,7 @@ mod memory;
 mod proposals;
 mod rules;
 mod running;
+mod season;
 mod stack;
 mod table;
 mod text;
@@ -24,6 +25,8 @@ fn main() {
     running::report();
     println!();
     growth::report();
+    println!();
+    season::report();
     println!();
     judging::report();
     println!();

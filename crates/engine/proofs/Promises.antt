@@ -120,7 +120,7 @@ run-is-desk = DeskRuns.run-is-desk
 pub step-within : (d : Desk) (a : ℕ) → WithinRule d (steppedOf d a .reply .answer .lines)
 step-within = Costs.step-within
 
--- The last rule accepted in `calls` stays that of every later call, as long as none is accepted.
+-- `calls` is all that went before, and `later` accepts no other rule: whatever size the rule accepted last has, every later reply stays within it.
 pub history-lines : (calls later : List Call) → BytesIn calls → BytesIn later → NoneAccepted later
     → LinesUpTo (ruleSize (booksAfter closed calls)) (desksBack (desksAfter emptyDesk calls) later)
 history-lines = Costs.history-lines
