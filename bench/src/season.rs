@@ -23,7 +23,12 @@ struct Tenth {
 pub fn report() {
     println!("A long season: {MILLIONS} million events on one desk, the least of {ROUNDS} rounds");
     let feed = STEADY.events(10 * TENTH);
-    of_rule(&format!("swap rule, {}", STEADY.name), 9, &swap_file(), &feed);
+    of_rule(
+        &format!("swap rule, {}", STEADY.name),
+        9,
+        &swap_file(),
+        &feed,
+    );
 }
 
 fn of_rule(label: &str, size: u64, rule: &[u8], feed: &[u8]) {
@@ -41,7 +46,9 @@ fn of_rule(label: &str, size: u64, rule: &[u8], feed: &[u8]) {
         text::figures(label, &[of(first), of(last), of(last) / of(first)]);
     };
     row("  ns an event", |tenth| tenth.time / TENTH as f64);
-    row("  lines an event", |tenth| tenth.lines as f64 / TENTH as f64);
+    row("  lines an event", |tenth| {
+        tenth.lines as f64 / TENTH as f64
+    });
     row("  most lines of an event", |tenth| tenth.most_lines as f64);
 }
 
