@@ -10,12 +10,12 @@ use Rattle.engine.specs.Desk.{emptyDesk}
 use Rattle.engine.specs.History.{Call, Call.opening, Call.stepping, Back, Back.numbered, Back.replied, BytesIn}
 use Rattle.engine.specs.History.{Book, Book.closed, Book.«open», desksAfter, booksAfter}
 
--- the size of the rule that was accepted last; none before that
+-- the size of the rule that was accepted last; 0 before any was
 abbrev pub ruleSize : Book → ℕ
 ruleSize closed = 0
 ruleSize («open» x feed) = size x
 
--- whatever openings and steps made the desk from an empty one, n is at most that size
+-- whatever openings and steps made the desk of an empty one, n is at most that size
 abbrev pub WithinRule : Desk → ℕ → Type 0
 WithinRule d n = (calls : List Call) → BytesIn calls → d ≡ desksAfter emptyDesk calls → n ≤ ruleSize (booksAfter closed calls)
 
