@@ -8,7 +8,7 @@ use native.Mathlib.Nat.{le-refl}
 use borrow.Author.Tests.{ne-eqb}
 use Rattle.files.specs.Rule.{ruleNumber}
 use Rattle.engine.specs.declared.Desk.{Desk}
-use Rattle.engine.specs.Desk.{emptyDesk, steppedOf}
+use Rattle.engine.specs.Mirror.Desk.{emptyDesk, steppedOf}
 use Rattle.engine.specs.History.{Call, Call.opening, Call.stepping, BytesIn, Book, Book.closed, Book.«open»}
 use Rattle.engine.specs.History.{bookAfter, booksAfter, desksAfter, desksBack}
 use Rattle.engine.specs.Cost.{ruleSize, WithinRule, NoneAccepted, LinesUpTo}

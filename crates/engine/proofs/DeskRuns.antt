@@ -10,7 +10,7 @@ use Rattle.files.specs.Rule.{rule, ruleNumber}
 use Rattle.engine.specs.declared.Desk.{Desk}
 use Rattle.engine.specs.declared.feed.Ran.{Ran}
 use Rattle.engine.specs.Feed.{answerBytes, ranNumber, Fed}
-use Rattle.engine.specs.Desk.{freshDesk, openedOf, steppedOf}
+use Rattle.engine.specs.Mirror.Desk.{freshDesk, openedOf, steppedOf}
 use Rattle.engine.specs.History.{Call.stepping, Back, Back.replied, desksBack, backBytes}
 use Rattle.engine.proofs.Runs.{ran-accepts}
 use Rattle.engine.proofs.Sitting.{Sitting, fresh-sits, after-more, step-sits, step-answers}

@@ -1,39 +1,42 @@
 -- On any desk whatever: a refused opening and a step with no rule open change nothing, no other step is refused, a finished rule stays open and
 -- silent, and no step uses more than 64 lines.
-use Prim.Native.Nat.{ℕ, _≤_}
+use Prim.Native.Nat.{ℕ, _%_, _≤_, _<_, _^_}
 use mathlib.Core.Path.{_≡_}
+use mathlib.Core.Bool.{true}
 use mathlib.Core.Logic.{_≢_}
 use mathlib.Core.List.{List}
 use native.Mathlib.Omega.{arith}
 use borrow.Author.Tests.{ne-eqb}
 use Rattle.par.proofs.Silence.{nothing}
 use Rattle.files.specs.Rule.{ruleNumber}
+use Rattle.play.proofs.Promises.{finished, lines-few}
 use Rattle.engine.specs.declared.Desk.{Desk}
-use Rattle.engine.specs.declared.Moved.{Moved}
-use Rattle.engine.specs.Desk.{marked, openedOf, refusal, steppedOf}
+use Rattle.engine.specs.declared.Onward.{Onward}
+use Rattle.engine.specs.Mirror.Desk.{marked, openedOf, refusal, put, onward, steppedOf}
 use Rattle.engine.proofs.Tests.{by-test}
-use Rattle.engine.proofs.Marks.{marked-yes}
-use Rattle.engine.proofs.Advancing.{advanced-done, advanced-few}
 
 pub refused-opening : (d : Desk) (s : List ℕ) → ruleNumber s ≢ 0 → openedOf d s .desk ≡ d
 unfolding openedOf
 refused-opening d s h = rw (ne-eqb (ruleNumber s) 0 h)
 
+marked-yes : (n : ℕ) → n ≢ 0 → marked n ≡ true
+marked-yes n h = rw (ne-eqb n 0 h)
+
 module _ (d : Desk) (a : ℕ) where
   pub closed-step : d .is_open ≡ 0 → steppedOf d a ≡ record { desk = d; reply = refusal 15 }
-  unfolding steppedOf
+  unfolding steppedOf onward
   closed-step e = rw e
 
   pub open-step : d .is_open ≢ 0 → steppedOf d a .reply .number ≡ 0
-  unfolding steppedOf
+  unfolding steppedOf onward
   open-step e = rw (marked-yes (d .is_open) e)
 
-  pub finished-step : d .is_open ≢ 0 → d .done ≢ 0 → steppedOf d a ≡ record { desk = d; reply = record { number = 0; answer = nothing } }
-  unfolding steppedOf
-  finished-step e f = rw (marked-yes (d .is_open) e, marked-yes (d .done) f, advanced-done (d .fixed) (d .sets) (d .root) a (d .phases) 0)
+  pub finished-step : d .is_open ≢ 0 → d .active ≡ 0 → steppedOf d a ≡ record { desk = put d 0 0; reply = record { number = 0; answer = nothing } }
+  unfolding steppedOf onward
+  finished-step e f = rw (marked-yes (d .is_open) e, f, finished (d .nodes) (d .gain) (d .leaves) (d .repeats) (d .root % 64) a)
 
-  pub reply-lines : steppedOf d a .reply .answer .lines ≤ 64
-  unfolding steppedOf
-  reply-lines =
-      by-test (λ (m : Moved). m .reply .answer .lines ≤ 64) (marked (d .is_open))
-      (λ _. advanced-few (d .fixed) (d .sets) (d .root) a (d .phases) 0 (marked (d .done))) (λ _. omega arith)
+  pub reply-lines : d .active < 2 ^ 64 → steppedOf d a .reply .answer .lines ≤ 64
+  unfolding steppedOf onward
+  reply-lines small =
+      by-test (λ (o : Onward). o .reply .answer .lines ≤ 64) (marked (d .is_open))
+      (λ _. lines-few (d .nodes) (d .gain) (d .leaves) (d .repeats) (d .root % 64) a (d .active) small) (λ _. omega arith)

@@ -11,9 +11,9 @@ use Rattle.par.specs.Feed.{Bytes}
 use Rattle.files.specs.Rule.{rule, ruleNumber}
 use Rattle.engine.specs.declared.Desk.{Desk}
 use Rattle.engine.specs.declared.Moved.{Moved}
-use Rattle.engine.specs.Desk.{emptyDesk, freshDesk, openedOf}
+use Rattle.engine.specs.Mirror.Desk.{emptyDesk, freshDesk, openedOf, steppedOf}
 use Rattle.engine.specs.History.{Call, Call.opening, Call.stepping, Back.replied, BytesIn}
-use Rattle.engine.specs.History.{Book, Book.closed, Book.«open», bookAfter, bookBack, booksAfter, booksBack}
+use Rattle.engine.specs.History.{Book, Book.closed, Book.«open», bookAfter, bookReply, bookBack, booksAfter, booksBack, ByTheBook}
 use Rattle.engine.specs.History.{deskAfter, deskBack, desksAfter, desksBack}
 use Rattle.engine.proofs.Desks.{closed-step}
 use Rattle.engine.proofs.Sitting.{Sitting, fresh-sits, step-sits, step-answers}
@@ -42,9 +42,16 @@ opens d b s bytes k =
           (λ e. sits (fresh-sits s bytes (eqb-true (ruleNumber s) 0 e))) k;
     }
 
+pub step-replies : (d : Desk) (b : Book) → Keeps d b → (a : ℕ) → steppedOf d a .reply ≡ bookReply b a
+step-replies d closed (shut e) a = ap (λ (m : Moved). m .reply) (closed-step d a e)
+step-replies d («open» x feed) (sits s) a = step-answers d x feed s a
+
+step-keeps : (d : Desk) (b : Book) → Keeps d b → (a : ℕ) → Keeps (steppedOf d a .desk) (bookAfter b (stepping a))
+step-keeps d closed (shut e) a = shut (ap (λ (m : Moved). m .desk .is_open) (closed-step d a e) ∙ e)
+step-keeps d («open» x feed) (sits s) a = sits (step-sits d x feed s a)
+
 pub steps : (d : Desk) (b : Book) (a : ℕ) → Keeps d b → Together d b (stepping a)
-steps d closed a (shut e) = record { back = rw (closed-step d a e); after = shut (ap (λ (m : Moved). m .desk .is_open) (closed-step d a e) ∙ e) }
-steps d («open» x feed) a (sits s) = record { back = ap replied (step-answers d x feed s a); after = sits (step-sits d x feed s a) }
+steps d b a k = record { back = ap replied (step-replies d b k a); after = step-keeps d b k a }
 
 both : (calls : List Call) (d : Desk) (b : Book) → BytesIn calls → Keeps d b → desksBack d calls ≡ booksBack b calls
 unfolding desksBack booksBack
@@ -68,3 +75,7 @@ keeps-empty = shut refl
 
 pub history : (calls : List Call) → BytesIn calls → desksBack emptyDesk calls ≡ booksBack closed calls
 history calls bytes = both calls emptyDesk closed bytes keeps-empty
+
+-- so of a step alone, on whatever desk such calls made
+pub by-the-book : (d : Desk) (a : ℕ) → ByTheBook d a (steppedOf d a .reply)
+by-the-book d a calls bytes e = step-replies d (booksAfter closed calls) (rw e (keeps-after calls emptyDesk closed bytes keeps-empty)) a

@@ -1,32 +1,17 @@
--- Promises restates the main theorems. Right: one event is what the figures say. Safe, Untested: no test for misfits fires. RuleNodes: the nodes of
--- a file mean its rule. Runs, Desks, Sitting, Histories, Costs, DeskRuns: the whole feed and the desk. The others prove these and the code.
+-- Promises restates the main theorems. Feeds, Runs: the whole feed. Desks, Sitting, Histories, Costs, DeskRuns: the desk. The others prove these and
+-- the code.
 pub mod Promises
-pub mod Right
-pub mod Safe
-pub mod Untested
-pub mod RuleNodes
+pub mod Feeds
 pub mod Runs
 pub mod Desks
 pub mod Sitting
 pub mod Histories
 pub mod Costs
 pub mod DeskRuns
-pub mod Tests
-pub mod Words
-pub mod Phases
-pub mod Routes
-pub mod Bounds
-pub mod Ends
-pub mod Stepping
-pub mod Frame
-pub mod Links
-pub mod Written
-pub mod Rooms
-pub mod Advancing
-pub mod Marks
-pub mod Settling
-pub mod DeskParts
-pub mod Buffers
+pub mod Widths
+pub mod Bytes
+pub mod Filling
 pub mod Feeding
-pub mod Standing
-pub mod Feeds
+pub mod Buffers
+pub mod DeskParts
+pub mod Tests

@@ -1,6 +1,6 @@
 -- What this crate promises beside its contracts, each theorem whole, with the file that proves it cited. Assumes nothing: there is no axiom in the crate.
 -- Bytes are numbers below 256; events may be any numbers.
-use Prim.Native.Nat.{ℕ, suc, _+_, _*_, _≤_, _<_}
+use Prim.Native.Nat.{ℕ, _+_, _*_, _^_, _≤_, _<_}
 use mathlib.Core.Path.{_≡_}
 use mathlib.Core.Logic.{_≢_}
 use mathlib.Core.List.{List, [], _∷_, _++_, map}
@@ -12,42 +12,25 @@ use Rattle.par.proofs.Silence.{nothing}
 use Rattle.files.specs.Rule.{rule, ruleNumber}
 use Rattle.engine.specs.declared.Desk.{Desk}
 use Rattle.engine.specs.declared.feed.Ran.{Ran}
-use Rattle.engine.specs.Moves.{stepped, advanced}
-use Rattle.engine.specs.Means.{Own, Means}
-use Rattle.engine.specs.WrittenOut.{nodesOf}
-use Rattle.engine.specs.Feed.{answerBytes, fedBytes, Fed}
-use Rattle.engine.specs.Desk.{emptyDesk, freshDesk, marked, openedOf, refusal, steppedOf}
-use Rattle.engine.specs.History.{Call, Call.stepping, BytesIn, Book.closed, desksAfter, desksBack, backBytes, booksAfter, booksBack}
+use Rattle.engine.specs.Feed.{answerBytes, Fed}
+use Rattle.engine.specs.History.{Call, Call.stepping, BytesIn, Book.closed, desksAfter, desksBack, backBytes, booksAfter, booksBack, ByTheBook}
 use Rattle.engine.specs.Cost.{ruleSize, WithinRule, NoneAccepted, LinesUpTo}
-use Rattle.engine.proofs.Right.{Good}
-use Rattle.engine.proofs.Right
-use Rattle.engine.proofs.RuleNodes
+use Rattle.engine.specs.Mirror.Desk.{emptyDesk, freshDesk, openedOf, refusal, put, steppedOf}
+use Rattle.engine.specs.Mirror.Feed.{fedBytes}
+use Rattle.engine.proofs.Feeds
 use Rattle.engine.proofs.Runs
 use Rattle.engine.proofs.Desks
-use Rattle.engine.proofs.Untested.{plain}
-use Rattle.engine.proofs.Sitting.{Sitting, byte-at}
+use Rattle.engine.proofs.Sitting.{Sitting}
 use Rattle.engine.proofs.Sitting
 use Rattle.engine.proofs.Histories
 use Rattle.engine.proofs.Costs
 use Rattle.engine.proofs.DeskRuns.{replies}
 use Rattle.engine.proofs.DeskRuns
 
--- ---- One event is what the figures say: on nodes that mean e it gives e's status, lines and notices, and leaves nodes that mean what remains of e
-
-pub right : (F S : List ℕ) (a : ℕ) {P : List ℕ} {lo r : ℕ} {e : Expr} → Means F S P lo r e → (f : ℕ) → r < f → r < 64 → length P ≡ 64 → (sent : ℕ)
-    → Good F S P a lo r e sent (stepped F S a f lo r P sent)
-right = Right.right
-
--- ---- The nodes of a rule file that is accepted mean its rule
-
-pub nodes-own : (s : List ℕ) → Bytes s → ruleNumber s ≡ 0 → Own (nodesOf s .fixed) (nodesOf s .sets) 0 (nodesOf s .root) (rule s)
-nodes-own s b = RuleNodes.nodes-own s (byte-at s b)
-
 -- ---- Running a whole feed writes what the figures answer, from the place on, and nothing else
 
-pub nodes-fed : (s : List ℕ) → Bytes s → ruleNumber s ≡ 0 → (events : List ℕ)
-    → fedBytes (nodesOf s .fixed) (nodesOf s .sets) (nodesOf s .root) events ≡ answerBytes (answers (rule s) events)
-nodes-fed s b = Runs.nodes-fed s (byte-at s b)
+pub rule-fed : (s : List ℕ) → Bytes s → ruleNumber s ≡ 0 → (events : List ℕ) → fedBytes s events ≡ answerBytes (answers (rule s) events)
+rule-fed = Feeds.rule-fed
 
 pub run-writes : (s events : List ℕ) (place : ℕ) (buffer : List ℕ) {r : Ran} {buffer' : List ℕ} → Fed s events place buffer r buffer' → r .number ≡ 0
     → (r .written ≡ 7 * length events)
@@ -72,6 +55,10 @@ run-one = Runs.fed-one
 pub history : (calls : List Call) → BytesIn calls → desksBack emptyDesk calls ≡ booksBack closed calls
 history = Histories.history
 
+-- So of a step alone, on whatever desk such calls made.
+pub by-the-book : (d : Desk) (a : ℕ) → ByTheBook d a (steppedOf d a .reply)
+by-the-book = Histories.by-the-book
+
 pub refused-opening : (d : Desk) (s : List ℕ) → ruleNumber s ≢ 0 → openedOf d s .desk ≡ d
 refused-opening = Desks.refused-opening
 
@@ -82,9 +69,9 @@ closed-step = Desks.closed-step
 pub open-step : (d : Desk) (a : ℕ) → d .is_open ≢ 0 → steppedOf d a .reply .number ≡ 0
 open-step = Desks.open-step
 
--- A finished rule stays open and silent.
-pub finished-step : (d : Desk) (a : ℕ) → d .is_open ≢ 0 → d .done ≢ 0
-    → steppedOf d a ≡ record { desk = d; reply = record { number = 0; answer = nothing } }
+-- A finished rule, with no node in play, stays open and silent.
+pub finished-step : (d : Desk) (a : ℕ) → d .is_open ≢ 0 → d .active ≡ 0
+    → steppedOf d a ≡ record { desk = put d 0 0; reply = record { number = 0; answer = nothing } }
 finished-step = Desks.finished-step
 
 -- ---- One rule on a desk, event by event
@@ -99,10 +86,9 @@ pub step-answers : (d : Desk) (x : Expr) (feed : List ℕ) → Sitting d x feed 
     → steppedOf d a .reply ≡ record { number = 0; answer = answer (after x feed) a }
 step-answers = Sitting.step-answers
 
--- The tests for nodes out of place, which keep a step safe on any desk whatever, change nothing where a rule sits.
-pub sitting-untested : (d : Desk) (x : Expr) (feed : List ℕ) → Sitting d x feed → d .done ≡ 0 → (a sent : ℕ)
-    → advanced (d .fixed) (d .sets) (d .root) (marked (d .done)) a (d .phases) sent ≡ plain (d .fixed) (d .sets) a (suc (d .root)) 0 (d .root) (d .phases) sent
-sitting-untested = Sitting.sitting-untested
+-- What sits there is one expression: the two words fix what remains.
+pub sitting-one : (d : Desk) (x y : Expr) (feed feed' : List ℕ) → Sitting d x feed → Sitting d y feed' → after x feed ≡ after y feed'
+sitting-one = Sitting.sitting-one
 
 -- ---- A desk that is fed event by event and a whole feed that is run give the same
 
@@ -128,6 +114,6 @@ history-lines = Costs.history-lines
 pub step-lines : (d : Desk) (x : Expr) (feed : List ℕ) → Sitting d x feed → (a : ℕ) → steppedOf d a .reply .answer .lines ≤ size x
 step-lines = Sitting.step-lines
 
--- On any desk whatever it has at most 64.
-pub reply-lines : (d : Desk) (a : ℕ) → steppedOf d a .reply .answer .lines ≤ 64
+-- On any desk whatever, of words of 64 bits, it has at most 64.
+pub reply-lines : (d : Desk) (a : ℕ) → d .active < 2 ^ 64 → steppedOf d a .reply .answer .lines ≤ 64
 reply-lines = Desks.reply-lines

@@ -11,28 +11,35 @@ use lib.Seq.{sets, sets-eq}
 use borrow.Author.Tests.{eqb-true, eqb-false, leb-true, ne-eqb}
 use Rattle.par.specs.Expr.{Expr}
 use Rattle.par.specs.Step.{remainder}
-use Rattle.par.specs.Feed.{answers}
+use Rattle.par.specs.Feed.{answers, Bytes}
 use Rattle.records.proofs.Tests.{cond-all}
 use Rattle.files.specs.Rule.{rule, ruleNumber}
 use Rattle.files.proofs.RuleNumbers.{rule-number}
-use Rattle.engine.specs.declared.writing.Nodes.{Nodes}
+use Rattle.ready.specs.declared.Ready.{Ready}
+use Rattle.ready.specs.Mirror.Ready.{readyOf}
+use Rattle.ready.proofs.Promises.{ready-number, ready-long, root-few}
 use Rattle.engine.specs.declared.feed.Ran.{Ran}
-use Rattle.engine.specs.WrittenOut.{nodesOf}
-use Rattle.engine.specs.Feed.{answerBytes, fedBytes, ranNumber, Fed}
+use Rattle.engine.specs.Feed.{answerBytes, ranNumber, Fed}
+use Rattle.engine.specs.Mirror.Feed.{fedFrom, fedBytes}
 use Rattle.engine.proofs.Tests.{by-test}
-use Rattle.engine.proofs.RuleNodes.{nodes-own, root-small}
-use Rattle.engine.proofs.Feeds.{fed-right}
-
--- the nodes of a rule file answer as its rule
-pub nodes-fed : (s : List ℕ) → ((i : ℕ) → getD s i 0 < 256) → ruleNumber s ≡ 0 → (events : List ℕ)
-    → fedBytes (nodesOf s .fixed) (nodesOf s .sets) (nodesOf s .root) events ≡ answerBytes (answers (rule s) events)
-nodes-fed s small e events =
-    fed-right (nodesOf s .fixed) (nodesOf s .sets) (nodesOf s .root) (root-small s e) (rule s) (nodes-own s small e) events
+use Rattle.engine.proofs.Feeds.{rule-fed}
 
 answers-long : (events : List ℕ) (x : Expr) → length (answerBytes (answers x events)) ≡ 7 * length events
 unfolding answerBytes answers
 answers-long [] x = refl
 answers-long (a ∷ events) x = rw (answers-long events (remainder x a)) (omega arith)
+
+-- ---- what the code knows of the rule that it made ready
+
+module _ (s : List ℕ) {n : Ready} (made : n ≡ readyOf s) where
+  number-is : n .number ≡ ruleNumber s
+  number-is = ap (λ (r : Ready). r .number) made ∙ ready-number s
+
+  pub root-in : n .number ≡ 0 → n .root < 64
+  root-in e = rw made (root-few s (sym number-is ∙ e))
+
+  pub nodes-in : (length (n .nodes) ≡ 64) × (length (n .gain) ≡ 64)
+  nodes-in = rw made (ready-long s)
 
 -- ---- the code's outcomes
 
@@ -41,18 +48,14 @@ module _ (s events : List ℕ) (place : ℕ) (buffer : List ℕ) where
   refused : {k : ℕ} → ranNumber s events place buffer ≡ k → k ≢ 0 → Fed s events place buffer (record { number = k; written = 0 }) buffer
   refused e h = record { number = sym e; written = rw (e, ne-eqb _ 0 h); bytes = rw (e, ne-eqb _ 0 h) }
 
-  module _ (n : Nodes) (made : n ≡ nodesOf s) where
-    number-is : n .number ≡ ruleNumber s
-    unfolding nodesOf
-    number-is = ap (λ (n : Nodes). n .number) made
-
+  module _ (n : Ready) (made : n ≡ readyOf s) where
     pub run-refused : n .number ≢ 0 → Fed s events place buffer (record { number = n .number; written = 0 }) buffer
     unfolding ranNumber
-    run-refused h = refused (rw (← number-is, ne-eqb _ 0 h)) h
+    run-refused h = refused (rw (← number-is s made, ne-eqb _ 0 h)) h
 
     module _ (accepted : n .number ≡ 0) where
       accepts : ruleNumber s ≡ 0
-      accepts = sym number-is ∙ accepted
+      accepts = sym (number-is s made) ∙ accepted
 
       pub run-no-room : leb (place + 7 * length events) (length buffer) ≡ false → Fed s events place buffer (record { number = 9; written = 0 }) buffer
       unfolding ranNumber
@@ -63,11 +66,12 @@ module _ (s events : List ℕ) (place : ℕ) (buffer : List ℕ) where
         unfolding ranNumber
         runs = rw (accepts, room)
 
-        pub run-answers : ((i : ℕ) → getD s i 0 < 256) → (written : ℕ) → written ≡ 7 * length events
-            → (buffer′ : List ℕ) → buffer′ ≡ sets buffer place (fedBytes (n .fixed) (n .sets) (n .root) events)
-            → Fed s events place buffer (record { number = 0; written = written }) buffer′
-        run-answers small written w buffer′ b =
-            record { number = sym runs; written = rw (runs, w); bytes = b ∙ rw (runs, made, nodes-fed s small accepts events) }
+        pub run-answers : Bytes s
+            → (buffer′ : List ℕ) → buffer′ ≡ sets buffer place (fedFrom (n .nodes) (n .gain) (n .leaves) (n .repeats) (n .root) (n .fresh) events)
+            → Fed s events place buffer (record { number = 0; written = 7 * length events }) buffer′
+        unfolding fedBytes
+        run-answers bytes buffer′ b =
+            record { number = sym runs; written = rw runs; bytes = b ∙ rw (runs, made, rule-fed s bytes accepts events) }
 
 -- ---- what a number tells
 

@@ -1,4 +1,4 @@
--- How many lines a step on a desk may report: after whatever went before, no more than the rule that was accepted last has nodes.
+-- What a reader must believe of a step's cost, in lines: after whatever went before, no more than the rule that was accepted last has nodes.
 use Prim.Native.Nat.{ℕ, _≤_}
 use mathlib.Core.Path.{_≡_}
 use mathlib.Core.Logic.{_≢_}
@@ -6,7 +6,7 @@ use mathlib.Core.List.{List, [], _∷_}
 use Rattle.par.specs.Expr.{size}
 use Rattle.files.specs.Rule.{ruleNumber}
 use Rattle.engine.specs.declared.Desk.{Desk}
-use Rattle.engine.specs.Desk.{emptyDesk}
+use Rattle.engine.specs.Mirror.Desk.{emptyDesk}
 use Rattle.engine.specs.History.{Call, Call.opening, Call.stepping, Back, Back.numbered, Back.replied, BytesIn}
 use Rattle.engine.specs.History.{Book, Book.closed, Book.«open», desksAfter, booksAfter}
 

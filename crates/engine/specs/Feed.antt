@@ -1,8 +1,8 @@
--- The answers to a whole feed, as the bytes of their records, and what running leaves in the buffer.
+-- What a reader must believe of a whole feed: the answers as the bytes of their records, and what running leaves in the buffer.
 use Prim.Native.Nat.{ℕ, _+_, _*_, _/_, _%_}
 use mathlib.Core.Path.{_≡_}
-use mathlib.Core.Bool.{Bool, false, cond}
-use mathlib.Core.List.{List, [], _∷_, _++_, replicate}
+use mathlib.Core.Bool.{cond}
+use mathlib.Core.List.{List, [], _∷_, _++_}
 use lib.ListN.{length}
 use lib.Seq.{sets}
 use lib.Dec.{eqb, leb}
@@ -11,7 +11,6 @@ use Rattle.par.specs.Status.{statusByte}
 use Rattle.par.specs.Feed.{answers}
 use Rattle.files.specs.Rule.{rule, ruleNumber}
 use Rattle.engine.specs.declared.feed.Ran.{Ran}
-use Rattle.engine.specs.Moves.{advanced, over}
 
 -- length 7, kind 32, the notice set, the status byte
 abbrev pub answerRecord : ℕ → ℕ → List ℕ
@@ -21,20 +20,6 @@ answerRecord notices status = 7 ∷ 0 ∷ 32 ∷ 0 ∷ notices % 256 ∷ notices
 unfoldable pub answerBytes : List Answer → List ℕ
 answerBytes [] = []
 answerBytes (r ∷ rs) = answerRecord (r .notices) (statusByte (r .status)) ++ answerBytes rs
-
--- ---- as the code does it, on any nodes whatever
-
-module _ (F S : List ℕ) (root : ℕ) where
-  unfoldable pub fedFrom : List ℕ → Bool → List ℕ → List ℕ
-  fedFrom P done [] = []
-  fedFrom P done (a ∷ events) =
-      let m = advanced F S root done a P 0 in
-      answerRecord (m .sent) (statusByte (m .status)) ++ fedFrom (m .phases) (over done (m .status)) events
-
-unfoldable pub fedBytes : List ℕ → List ℕ → ℕ → List ℕ → List ℕ
-fedBytes F S root events = fedFrom F S root (replicate 64 0) false events
-
--- ---- what running means
 
 -- file, 8, 9
 unfoldable pub ranNumber : List ℕ → List ℕ → ℕ → List ℕ → ℕ

@@ -1,5 +1,7 @@
--- What a desk answers to any openings and steps: a book keeps the rule that was opened last and the events since, and the figures say the rest.
+-- What a reader must believe of a desk: whatever openings and steps made it of an empty one, a book keeps the rule that was opened last and the
+-- events since, and the figures say the rest. `emptyDesk`, `openedOf` and `steppedOf` only name what the calls do.
 use Prim.Native.Nat.{ℕ}
+use mathlib.Core.Path.{_≡_}
 use mathlib.Core.Bool.{cond}
 use mathlib.Core.List.{List, [], _∷_, _++_}
 use lib.Dec.{eqb}
@@ -10,7 +12,7 @@ use Rattle.files.specs.Rule.{rule, ruleNumber}
 use Rattle.engine.specs.declared.Desk.{Desk}
 use Rattle.engine.specs.declared.Reply.{Reply}
 use Rattle.engine.specs.Feed.{answerRecord}
-use Rattle.engine.specs.Desk.{openedOf, steppedOf, refusal}
+use Rattle.engine.specs.Mirror.Desk.{emptyDesk, openedOf, steppedOf, refusal}
 
 -- a call on a desk, and what comes back of it
 pub data Call : Type 0 where
@@ -62,10 +64,14 @@ bookAfter b (opening s) = cond (eqb (ruleNumber s) 0) («open» (rule s) []) b
 bookAfter closed (stepping a) = closed
 bookAfter («open» x feed) (stepping a) = «open» x (feed ++ (a ∷ []))
 
+-- the reply to an event: 15 where no rule is open, else what the figures answer for the rule after the events since
+abbrev pub bookReply : Book → ℕ → Reply
+bookReply closed a = refusal 15
+bookReply («open» x feed) a = record { number = 0; answer = answer (after x feed) a }
+
 abbrev pub bookBack : Book → Call → Back
 bookBack b (opening s) = numbered (ruleNumber s)
-bookBack closed (stepping a) = replied (refusal 15)
-bookBack («open» x feed) (stepping a) = replied (record { number = 0; answer = answer (after x feed) a })
+bookBack b (stepping a) = replied (bookReply b a)
 
 unfoldable pub booksBack : Book → List Call → List Back
 booksBack b [] = []
@@ -74,3 +80,9 @@ booksBack b (c ∷ calls) = bookBack b c ∷ booksBack (bookAfter b c) calls
 unfoldable pub booksAfter : Book → List Call → Book
 booksAfter b [] = b
 booksAfter b (c ∷ calls) = booksAfter (bookAfter b c) calls
+
+-- ---- what a step means
+
+-- whatever openings and steps made the desk of an empty one, the reply is the book's
+abbrev pub ByTheBook : Desk → ℕ → Reply → Type 0
+ByTheBook d a r = (calls : List Call) → BytesIn calls → d ≡ desksAfter emptyDesk calls → r ≡ bookReply (booksAfter closed calls) a

@@ -1,9 +1,6 @@
--- Running a rule: its nodes and what they stand for, one event, the rule written out, the whole feed, the desk, and what a step on it may cost.
-pub mod Nodes
-pub mod Moves
-pub mod Means
-pub mod WrittenOut
+-- Running a rule. What a reader must believe: Feed (the answers as bytes, and what running means), History (what a desk answers to any openings and
+-- steps) and Cost (how many lines a step may report). Mirror has what the code computes; the theorems of proofs/Promises.antt tie the two.
 pub mod Feed
-pub mod Desk
 pub mod History
 pub mod Cost
+pub mod Mirror

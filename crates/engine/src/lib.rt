@@ -1,29 +1,31 @@
 // Running a rule: the whole feed at once, or event by event on a desk.
-pub mod ways; // ways.rt: which way a node takes an event, and what its status and phase become
-pub mod moves; // moves.rt: one event on the nodes of a rule
-pub mod writing; // writing.rt: a rule's file becomes its nodes
 pub mod feed; // feed.rt: the whole feed
 
 pub use feed::Ran;
 pub use feed::run;
 ghost use mathlib.Core.Path.{_≡_};
 ghost use lib.ListN.{length};
-ghost use Rattle.engine.specs.Desk.{emptyDesk, openedOf, steppedOf, Gives};
+ghost use Rattle.engine.specs.History.{ByTheBook};
 ghost use Rattle.engine.specs.Cost.{WithinRule};
+ghost use Rattle.engine.specs.Mirror.Desk.{emptyDesk, openedOf, narrowed, onward, steppedOf};
 use par::Answer;
 use par::Notices;
 use par::Status;
+use play::State;
 
-// A place for one rule that takes its events one by one. Made by `empty`, changed by `open` and `step` alone. Two marks, 0 for no and any other
-// byte for yes; the rule's nodes and notice sets, which stay from one opening to the next; and a phase for each node, which a step moves on.
+// A place for one rule that takes its events one by one. Made by `empty`, changed by `open` and `step` alone. A mark, 0 for no and any other byte for
+// yes; the rule's nodes and what a step needs beside them, which stay from one opening to the next; and the two words that a step moves on: the nodes
+// in play, and the repeats under way. A rule with no node in play has completed.
 #[repr(C)]
 pub struct Desk {
     is_open: u8,
-    done: u8,
     root: usize,
-    fixed: [u32; 64],
-    sets: [Notices; 64],
-    phases: [u8; 64],
+    leaves: u64,
+    repeats: u64,
+    active: u64,
+    going: u64,
+    nodes: [u16; 64],
+    gain: [u64; 64],
 }
 
 // What a step answers: its number and, at 0, the event's answer; for a refusal none, waiting, 0.
@@ -32,7 +34,14 @@ pub struct Reply {
     pub answer: Answer,
 }
 
-// What a step by value gives back.
+// What a step by value gives back: the two words, and the reply.
+struct Onward {
+    active: u64,
+    going: u64,
+    reply: Reply,
+}
+
+// What a step of a whole desk by value gives back.
 pub struct Moved {
     pub desk: Desk,
     pub reply: Reply,
@@ -50,11 +59,13 @@ pub fn empty() -> Desk
 {
     Desk {
         is_open: 0,
-        done: 0,
         root: 0,
-        fixed: [0; 64],
-        sets: [0; 64],
-        phases: [0; 64],
+        leaves: 0,
+        repeats: 0,
+        active: 0,
+        going: 0,
+        nodes: [0; 64],
+        gain: [0; 64],
     }
 }
 
@@ -62,70 +73,87 @@ pub fn empty() -> Desk
 pub fn opened(d: Desk, rule: &[u8]) -> Begun
     ensures { λ r. ⌜ r ≡ openedOf d (now (rule .entry)) ⌝ }
 {
-    let nodes = writing::nodes_of(rule);
-    let number = nodes.number;
+    let ready = ready::ready_of(rule);
+    let number = ready.number;
     if number != 0 {
         return Begun { desk: d, number };
     }
-    let fixed = nodes.fixed;
-    let sets = nodes.sets;
+    let nodes = ready.nodes;
+    let gain = ready.gain;
     Begun {
         desk: Desk {
             is_open: 1,
-            done: 0,
-            root: nodes.root,
-            fixed,
-            sets,
-            phases: [0; 64],
+            root: ready.root,
+            leaves: ready.leaves,
+            repeats: ready.repeats,
+            active: ready.fresh,
+            going: 0,
+            nodes,
+            gain,
         },
         number: 0,
     }
 }
 
-// The work of `step` on the fields of a desk, lent: the nodes stay, the phases and whether the rule is done move on.
+// A notice set as wide as a record holds it.
+pub fn narrow(sent: u64) -> Notices
+    ensures { λ r. ⌜ r ≡ narrowed sent ⌝ }
+{
+    (sent % 65536) as Notices
+}
+
+// The work of `step`, by value: the two words in, the two words and the reply out.
 fn move_on<'a>(
     is_open: u8,
     root: usize,
-    fixed: &'a [u32; 64],
-    sets: &'a [Notices; 64],
-    phases: &mut [u8; 64],
-    done: &mut u8,
+    leaves: u64,
+    repeats: u64,
+    active: u64,
+    going: u64,
+    nodes: &'a [u16; 64],
+    gain: &'a [u64; 64],
     event: u8,
-) -> Reply
-    requires { ⌜ (length (now fixed) ≡ 64) × (length (now sets) ≡ 64) × (length (now phases) ≡ 64) ⌝ }
-    ensures { λ r. ⌜ Gives
-        (steppedOf (record {
+) -> Onward
+    requires { ⌜ (length (now nodes) ≡ 64) × (length (now gain) ≡ 64) ⌝ }
+    ensures { λ r. ⌜ r
+        ≡ onward (record {
           is_open = is_open;
-          done = now (done .entry);
           root = root;
-          fixed = now (fixed .entry);
-          sets = now (sets .entry);
-          phases = now (phases .entry);
-        }) event)
-        r (now (phases .exit)) (now (done .exit)) ⌝ }
+          leaves = leaves;
+          repeats = repeats;
+          active = active;
+          going = going;
+          nodes = now (nodes .entry);
+          gain = now (gain .entry);
+        }) event ⌝ }
 {
     if is_open == 0 {
-        return Reply {
-            number: 15,
-            answer: Answer {
-                notices: 0,
-                lines: 0,
-                status: Status::Waiting,
+        return Onward {
+            active,
+            going,
+            reply: Reply {
+                number: 15,
+                answer: Answer {
+                    notices: 0,
+                    lines: 0,
+                    status: Status::Waiting,
+                },
             },
         };
     }
-    let mut sent = 0;
-    let was = *done != 0;
-    let w = feed::advance(fixed, sets, phases, &mut sent, root, was, event);
-    if w % 4 != 0 {
-        *done = 1;
-    }
-    Reply {
-        number: 0,
-        answer: Answer {
-            notices: sent,
-            lines: w / 4,
-            status: moves::word_status(w),
+    let state = State { active, going };
+    let m = play::step(nodes, gain, leaves, repeats, root % 64, state, event);
+    let status = m.status;
+    Onward {
+        active: m.active,
+        going: m.going,
+        reply: Reply {
+            number: 0,
+            answer: Answer {
+                notices: narrow(m.notices),
+                lines: m.lines,
+                status,
+            },
         },
     }
 }
@@ -134,20 +162,21 @@ fn move_on<'a>(
 pub fn stepped(d: Desk, event: u8) -> Moved
     ensures { λ r. ⌜ r ≡ steppedOf d event ⌝ }
 {
-    let mut phases = d.phases;
-    let mut done = d.done;
-    let reply = move_on(
+    let m = move_on(
         d.is_open,
         d.root,
-        &d.fixed,
-        &d.sets,
-        &mut phases,
-        &mut done,
+        d.leaves,
+        d.repeats,
+        d.active,
+        d.going,
+        &d.nodes,
+        &d.gain,
         event,
     );
     let mut next = d;
-    next.phases = phases;
-    next.done = done;
+    next.active = m.active;
+    next.going = m.going;
+    let reply = m.reply;
     Moved { desk: next, reply }
 }
 
@@ -161,20 +190,26 @@ pub fn open(d: &mut Desk, rule: &[u8]) -> u8
     s.number
 }
 
-// Moves an open desk on by one event. 15 where no rule is open: then the desk is as it was. However many events went before, the reply has
-// at most as many lines as the rule has nodes.
+// Moves an open desk on by one event. 15 where no rule is open: then the desk is as it was. Whatever openings and steps went before, the reply is
+// what the figures give for the rule that was accepted last after the events since, and it has at most as many lines as that rule has nodes.
 pub fn step(d: &mut Desk, event: u8) -> Reply
     ensures { λ r. ⌜ (r ≡ steppedOf (now (d .entry)) event .reply)
         × (now (d .exit) ≡ steppedOf (now (d .entry)) event .desk)
+        × ByTheBook (now (d .entry)) event r
         × WithinRule (now (d .entry)) (r .answer .lines) ⌝ }
 {
-    move_on(
+    let m = move_on(
         d.is_open,
         d.root,
-        &d.fixed,
-        &d.sets,
-        &mut d.phases,
-        &mut d.done,
+        d.leaves,
+        d.repeats,
+        d.active,
+        d.going,
+        &d.nodes,
+        &d.gain,
         event,
-    )
+    );
+    d.active = m.active;
+    d.going = m.going;
+    m.reply
 }

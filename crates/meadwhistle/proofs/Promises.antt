@@ -6,7 +6,7 @@ use lib.ListN.{length}
 use Rattle.engine.specs.declared.Desk.{Desk}
 use Rattle.engine.specs.declared.feed.Ran.{Ran}
 use Rattle.engine.specs.Feed.{Fed}
-use Rattle.engine.specs.Desk.{emptyDesk, openedOf, steppedOf}
+use Rattle.engine.specs.Mirror.Desk.{emptyDesk, openedOf, steppedOf}
 use Rattle.engine.proofs.Runs.{fed-one}
 use Rattle.alike.specs.Verdict.{judged, shownOf}
 use Rattle.printout.specs.Text.{text}

@@ -1,12 +1,12 @@
 // What other languages call: slices cross as a pointer and a length, statuses as their byte, structs by value.
 ghost use mathlib.Core.Path.{_≡_};
 ghost use Rattle.engine.specs.Feed.{Fed};
-ghost use Rattle.engine.specs.Desk.{emptyDesk, openedOf, steppedOf};
 ghost use Rattle.engine.specs.Cost.{WithinRule};
+ghost use Rattle.engine.specs.Mirror.Desk.{emptyDesk, openedOf, steppedOf};
 ghost use Rattle.alike.specs.Verdict.{judged};
 ghost use Rattle.printout.specs.Text.{text as textOf};
 ghost use Rattle.printout.specs.Printed.{PrintedAs};
-ghost use Rattle.meadwhistle.specs.Flat.{flatReply};
+ghost use Rattle.meadwhistle.specs.Flat.{flatReply, FlatByTheBook};
 ghost use Rattle.meadwhistle.specs.Part.{partOf};
 use engine::Desk;
 use engine::Ran;
@@ -71,11 +71,13 @@ fn flat(reply: Reply) -> FlatReply
     }
 }
 
-// Moves an open desk on by one event, in at most as many lines as the rule has nodes; refused, the desk is as it was.
+// Moves an open desk on by one event; refused, the desk is as it was. Whatever openings and steps went before, the reply is what the figures give for
+// the rule that was accepted last after the events since, in at most as many lines as that rule has nodes.
 #[no_mangle]
 pub extern "C" fn meadwhistle_desk_step(d: &mut Desk, event: u8) -> FlatReply
     ensures { λ r. ⌜ (r ≡ flatReply (steppedOf (now (d .entry)) event .reply))
         × (now (d .exit) ≡ steppedOf (now (d .entry)) event .desk)
+        × FlatByTheBook (now (d .entry)) event r
         × WithinRule (now (d .entry)) (r .lines) ⌝ }
 {
     let reply = engine::step(d, event);

@@ -3,5 +3,6 @@ pub mod Promises
 pub mod Words
 pub mod Outputs
 pub mod Lines
+pub mod Printing
 pub mod Texts
 pub mod SwapText

@@ -1,79 +1,64 @@
--- The loop of `put_lines`: what has been written, with the lines of the rest of the events behind it, is the whole.
-use Prim.Native.Nat.{ℕ, suc, _+_, _*_, _-_, _≤_, _<_}
-use mathlib.Core.Path.{_≡_, refl, sym, ap, _∙_}
-use mathlib.Core.Bool.{Bool, false}
-use mathlib.Core.List.{List, [], _∷_, replicate}
+-- The lines of a feed: how long they are, that the answers of an expression give its own lines, and that the answers' records, read back, give theirs.
+use Prim.Native.Nat.{ℕ, _+_, _*_}
+use mathlib.Core.Path.{_≡_, refl, _∙_}
+use mathlib.Core.List.{List, [], _∷_, _++_}
 use native.Mathlib.Omega.{arith}
-use native.Mathlib.Numerals.{add-one}
-use lib.ListN.{length, getD, take, drop, drop-of-length-le, length-append}
-use lib.Seq.{sets, length-sets, drop-cons}
-use borrow.Rule.Slice.PartMut.{putMid}
-use Rattle.engine.specs.Moves.{Made, advanced, over}
-use Rattle.engine.proofs.Advancing.{advanced-long}
-use Rattle.engine.proofs.Buffers.{put-back}
-use Rattle.printout.specs.Text.{line}
-use Rattle.printout.specs.Printed.{linesBy, linesFrom}
+use native.Mathlib.Nat.{mod-add-div}
+use lib.ListN.{length, getD, drop, length-append}
+use Rattle.par.specs.declared.Status.{Status}
+use Rattle.par.specs.declared.Status.the-variants.{Waiting, Success, Failure}
+use Rattle.par.specs.declared.Answer.{Answer}
+use Rattle.par.specs.Expr.{Expr}
+use Rattle.par.specs.Status.{statusByte}
+use Rattle.par.specs.Step.{remainder}
+use Rattle.par.specs.Feed.{answers}
+use Rattle.engine.specs.Feed.{answerBytes}
+use Rattle.printout.specs.Text.{line, lines}
+use Rattle.printout.specs.Mirror.Lines.{statusOf, linesOf}
 use Rattle.printout.proofs.Words.{line-long}
-use Rattle.printout.proofs.Outputs.{sets-behind}
 
--- ---- the lines of a feed, by its first event
+-- ---- the lines of answers
 
-module _ (F S : List ℕ) (root : ℕ) where
-  pub lines-long : (events P : List ℕ) (done : Bool) → length (linesBy F S root P done events) ≡ 16 * length events
-  unfolding linesBy
-  lines-long [] P done = refl
-  lines-long (a ∷ events) P done =
-      let m = advanced F S root done a P 0 in
-      let rest = lines-long events (m .phases) (over done (m .status)) in
-      length-append (line a (m .sent) (m .status)) _ ∙ omega (arith, line-long a (m .sent) (m .status))
+pub lines-of-long : (events : List ℕ) (rs : List Answer) → length rs ≡ length events → length (linesOf events rs) ≡ 16 * length events
+unfolding linesOf
+lines-of-long [] rs h = refl
+lines-of-long (a ∷ events) [] h = omega arith
+lines-of-long (a ∷ events) (r ∷ rs) h =
+    length-append (line a (r .notices) (r .status)) (linesOf events rs)
+    ∙ omega (arith, line-long a (r .notices) (r .status), lines-of-long events rs (omega arith))
 
-  lines-none : (P : List ℕ) (done : Bool) (events : List ℕ) (i : ℕ) → length events ≤ i → linesBy F S root P done (drop i events) ≡ []
-  unfolding linesBy
-  lines-none P done events i h = rw (drop-of-length-le events h)
+pub answers-many : (x : Expr) (events : List ℕ) → length (answers x events) ≡ length events
+unfolding answers
+answers-many x [] = refl
+answers-many x (a ∷ events) = omega (arith, answers-many (remainder x a) events)
 
-  -- from an event's place on: its line at that place, and the rest behind it
-  lines-one : (P : List ℕ) (done : Bool) (events : List ℕ) (i : ℕ) → i < length events → (output : List ℕ) (at : ℕ) (m : Made)
-      → m ≡ advanced F S root done (getD events i 0) P 0
-      → sets output at (linesBy F S root P done (drop i events))
-      ≡ sets (sets output at (line (getD events i 0) (m .sent) (m .status))) (at + 16)
-      (linesBy F S root (m .phases) (over done (m .status)) (drop (i + 1) events))
-  unfolding linesBy
-  lines-one P done events i h output at m e =
-      rw (drop-cons events i 0 h, ← e, add-one i)
-      (sets-behind output at (line (getD events i 0) (m .sent) (m .status))
-      (linesBy F S root (m .phases) (over done (m .status)) (drop (suc i) events)) 16 (line-long (getD events i 0) (m .sent) (m .status)))
+pub lines-answers : (x : Expr) (events : List ℕ) → linesOf events (answers x events) ≡ lines x events
+unfolding linesOf answers lines
+lines-answers x [] = refl
+lines-answers x (a ∷ events) = rw (lines-answers (remainder x a) events)
 
--- ---- the loop's invariant
+-- ---- the lines of records
 
-pub record Printing (F S : List ℕ) (root : ℕ) (events output₀ output P : List ℕ) (done : Bool) (at i : ℕ) : Type 0 where
-  pub inside : i ≤ length events
-  pub there : at ≡ 16 * i
-  pub wide : length P ≡ 64
-  pub long : length output ≡ length output₀
-  pub rest : sets output at (linesBy F S root P done (drop i events)) ≡ sets output₀ 0 (linesFrom F S root events)
+pub answer-bytes-long : (rs : List Answer) → length (answerBytes rs) ≡ 7 * length rs
+unfolding answerBytes
+answer-bytes-long [] = refl
+answer-bytes-long (r ∷ rs) = omega (arith, answer-bytes-long rs)
 
-module _ (F S : List ℕ) (root : ℕ) (events output₀ : List ℕ) where
-  pub printing-begins : Printing F S root events output₀ output₀ (replicate 64 0) false 0 0
-  printing-begins = record { inside = omega arith; there = omega arith; wide = refl; long = refl; rest = refl }
+pub status-of-byte : (s : Status) → statusOf (statusByte s) ≡ s
+unfolding statusOf
+status-of-byte Waiting = refl
+status-of-byte Success = refl
+status-of-byte Failure = refl
 
-  module _ (output P : List ℕ) (done : Bool) (at i : ℕ) (now : Printing F S root events output₀ output P done at i) where
-    pub printing-turn : 16 * length events ≤ length output₀ → i < length events
-        → (m : Made) → m ≡ advanced F S root done (getD events i 0) P 0
-        → (back : List ℕ) → back ≡ sets (take (length output - at) (drop at output)) 0 (line (getD events i 0) (m .sent) (m .status))
-        → Printing F S root events output₀ (putMid at (length output - at) output back) (m .phases) (over done (m .status)) (at + 16) (i + 1)
-    printing-turn room h m e back put =
-        let there = now .there in
-        let long = now .long in
-        let bytes = line (getD events i 0) (m .sent) (m .status) in
-        let wide = line-long (getD events i 0) (m .sent) (m .status) in
-        let written = put-back output at bytes back (omega arith) put in
-        record {
-          inside = omega arith;
-          there = omega arith;
-          wide = ap (λ (k : Made). length (k .phases)) e ∙ advanced-long F S root (getD events i 0) P 0 done ∙ now .wide;
-          long = ap length written ∙ length-sets output at bytes ∙ long;
-          rest = rw written (sym (lines-one F S root P done events i h output at m e) ∙ now .rest);
-        }
+-- as the code reads them: bytes 4 and 5 of a record are the notice set, byte 6 the status
+unfoldable pub linesIn : List ℕ → List ℕ → List ℕ
+linesIn [] records = []
+linesIn (a ∷ events) records =
+    line a (getD records 4 0 + 256 * getD records 5 0) (statusOf (getD records 6 0)) ++ linesIn events (drop 7 records)
 
-    pub printing-ended : length events ≤ i → output ≡ sets output₀ 0 (linesFrom F S root events)
-    printing-ended h = rw (lines-none F S root P done events i h) at (now .rest)
+pub lines-in-answers : (events : List ℕ) (rs : List Answer) → length rs ≡ length events → linesIn events (answerBytes rs) ≡ linesOf events rs
+unfolding linesIn linesOf answerBytes
+lines-in-answers [] rs h = refl
+lines-in-answers (a ∷ events) [] h = absurd (omega arith)
+lines-in-answers (a ∷ events) (r ∷ rs) h =
+    rw (mod-add-div (r .notices) 256, status-of-byte (r .status), lines-in-answers events rs (omega arith))

@@ -1,78 +1,71 @@
 -- The text of an input, by its outcome; the text of a rule's nodes is that of the rule, and where it goes in the output.
 use Prim.Native.Nat.{ℕ, zero, suc, _+_, _*_, _-_, _≤_, _<_}
 use mathlib.Core.Path.{_≡_, refl, sym, ap, _∙_}
-use mathlib.Core.Bool.{Bool, false}
 use mathlib.Core.Logic.{_≢_}
-use mathlib.Core.List.{List, [], _∷_, _++_, replicate}
+use mathlib.Core.List.{List, [], _∷_}
 use native.Mathlib.Omega.{arith}
 use lib.ListN.{length, getD, take, drop, length-append, length-drop}
 use lib.Seq.{sets, length-sets, take-all, getD-drop}
 use lib.Dec.{eqb, ltb}
 use borrow.Author.Tests.{ltb-false, lt-ltb, le-ltb, le-leb, eq-eqb, ne-eqb}
 use borrow.Rule.Slice.PartMut.{putMid}
+use Rattle.par.specs.declared.Answer.{Answer}
 use Rattle.par.specs.Expr.{Expr, size}
 use Rattle.par.specs.Step.{status as statusOf, notices as noticesOf, remainder}
-use Rattle.par.proofs.Sets.{none-join}
+use Rattle.par.specs.Feed.{answers, Bytes}
 use Rattle.records.specs.Fields.{wordAt}
 use Rattle.records.proofs.Tests.{cond-case, cond-all}
 use Rattle.files.specs.Rule.{rule, ruleNumber}
 use Rattle.files.proofs.RuleNumbers.{rule-number}
-use Rattle.engine.specs.declared.writing.Nodes.{Nodes}
-use Rattle.engine.specs.Means.{Own}
-use Rattle.engine.specs.WrittenOut.{nodesOf}
-use Rattle.engine.proofs.Buffers.{put-back}
-use Rattle.engine.proofs.Standing.{Stands, advance-right, fresh-stands}
-use Rattle.engine.proofs.RuleNodes.{nodes-own, root-small, root-size, nodes-long}
+use Rattle.ready.specs.declared.Ready.{Ready}
+use Rattle.ready.specs.Mirror.Ready.{readyOf}
+use Rattle.ready.proofs.Promises.{ready-number, ready-long, root-few, root-size}
+use Rattle.engine.specs.Feed.{answerBytes}
+use Rattle.engine.specs.Mirror.Feed.{fedFrom, fedBytes}
+use Rattle.engine.proofs.Bytes.{all-bytes}
+use Rattle.engine.proofs.Promises.{rule-fed}
 use Rattle.printout.specs.Text.{ruleWord, decimalLength, decimal, line, lines, refusedText, ruleText, ruleIn, eventsIn, text}
-use Rattle.printout.specs.Printed.{PrintedAs, linesBy, linesFrom, ruleTextFrom}
+use Rattle.printout.specs.Printed.{PrintedAs}
+use Rattle.printout.specs.Mirror.Lines.{linesOf, ruleTextOf}
 use Rattle.printout.proofs.Words.{decimal-long, decimal-few, line-long}
-use Rattle.printout.proofs.Outputs.{sets-behind}
-use Rattle.printout.proofs.Lines.{lines-long}
+use Rattle.printout.proofs.Outputs.{sets-behind, put-part, sets-over, read-part}
+use Rattle.printout.proofs.Lines.{answer-bytes-long, lines-of-long, lines-answers}
 
 -- ---- the text of a rule's nodes in the output
 
--- "rule ", the size, and the lines behind them in a part that was lent and came back
-pub rule-put : (l : List ℕ) (n : ℕ) (vs : List ℕ) {l₁ l₂ l₃ : List ℕ} {head : ℕ} → head ≡ 6 + decimalLength n → head + length vs ≤ length l
-    → l₁ ≡ sets l 0 ruleWord → l₂ ≡ sets l₁ 5 (decimal n) → l₃ ≡ sets (take (length l₂ - head) (drop head l₂)) 0 vs
-    → putMid head (length l₂ - head) l₂ l₃ ≡ sets l 0 (ruleWord ++ (decimal n ++ vs))
-rule-put l n vs {l₁} {l₂} {l₃} {head} is room e₁ e₂ e₃ =
-    let long : length l₂ ≡ length l = ap length e₂ ∙ length-sets l₁ 5 (decimal n) ∙ ap length e₁ ∙ length-sets l 0 ruleWord in
-    let behind : 5 + (decimalLength n + 1) ≡ head = omega arith in
-    put-back l₂ head vs l₃ (omega arith) e₃
-    ∙ rw (e₂, e₁, ← behind) (sym (sets-behind (sets l 0 ruleWord) 5 (decimal n) vs (decimalLength n + 1) (decimal-long n)))
+module _ (l : List ℕ) (root : ℕ) (events : List ℕ) (rs : List Answer) (many : length rs ≡ length events) {head : ℕ} (is : head ≡ 6 + decimalLength (root + 1)) where
+  pub rule-long : head + 16 * length events ≡ length (ruleTextOf root events rs)
+  rule-long = omega (arith, decimal-long (root + 1), lines-of-long events rs many, length-append (decimal (root + 1)) (linesOf events rs))
 
-pub rule-long : (F S : List ℕ) (root : ℕ) (events : List ℕ) {head : ℕ} → head ≡ 6 + decimalLength (root + 1)
-    → head + 16 * length events ≡ length (ruleTextFrom F S root events)
-rule-long F S root events is =
-    omega (arith, decimal-long (root + 1), lines-long F S root events (replicate 64 0) false, length-append (decimal (root + 1)) (linesFrom F S root events))
+  module _ {l₁ l₂ : List ℕ} (e₁ : l₁ ≡ sets l 0 ruleWord) (e₂ : l₂ ≡ sets l₁ 5 (decimal (root + 1))) (room : head + 16 * length events ≤ length l) where
+    long : length l₂ ≡ length l
+    long = ap length e₂ ∙ length-sets l₁ 5 (decimal (root + 1)) ∙ ap length e₁ ∙ length-sets l 0 ruleWord
+
+    -- the records stand where the lines end
+    pub rule-records : drop (9 * length events) (take (16 * length events) (drop head (sets l₂ (head + 9 * length events) (answerBytes rs)))) ≡ answerBytes rs
+    rule-records =
+        read-part l₂ head (16 * length events) (9 * length events) (answerBytes rs) (omega (arith, answer-bytes-long rs, many)) (omega (arith, long))
+
+    -- "rule ", the size, and the lines over the records
+    pub rule-put : putMid head (16 * length events) (sets l₂ (head + 9 * length events) (answerBytes rs)) (linesOf events rs)
+        ≡ sets l 0 (ruleTextOf root events rs)
+    rule-put =
+        let wide = lines-of-long events rs many in
+        let behind : 5 + (decimalLength (root + 1) + 1) ≡ head = omega arith in
+        put-part (sets l₂ (head + 9 * length events) (answerBytes rs)) head (linesOf events rs) wide
+        (rw (length-sets l₂ (head + 9 * length events) (answerBytes rs)) (omega (arith, long)))
+        ∙ sets-over l₂ head (linesOf events rs) (head + 9 * length events) (answerBytes rs) (omega arith) (omega (arith, answer-bytes-long rs, many, wide))
+        (omega (arith, long, wide))
+        ∙ rw (e₂, e₁, ← behind)
+        (sym (sets-behind (sets l 0 ruleWord) 5 (decimal (root + 1)) (linesOf events rs) (decimalLength (root + 1) + 1) (decimal-long (root + 1))))
 
 -- ---- the text of a rule's nodes is that of the rule
 
-module _ (F S : List ℕ) (root : ℕ) (h : root < 64) where
-  lines-by : (events : List ℕ) {P : List ℕ} {done : Bool} {x : Expr} → length P ≡ 64 → Stands F S root P done x
-      → linesBy F S root P done events ≡ lines x events
-  unfolding linesBy lines
-  lines-by [] long s = refl
-  lines-by (a ∷ events) {P} {done} {x} long s =
-      let g = advance-right F S root a h long s 0 in
-      rw (lines-by events (g .long) (g .stands), g .status, g .notices, none-join (noticesOf x a))
+pub rule-text : (r : List ℕ) → ruleNumber r ≡ 0 → (events : List ℕ)
+    → ruleTextOf (readyOf r .root) events (answers (rule r) events) ≡ ruleText (rule r) events
+rule-text r accepted events = rw (root-size r accepted, lines-answers (rule r) events) refl
 
-  lines-right : (x : Expr) → Own F S 0 root x → (events : List ℕ) → linesFrom F S root events ≡ lines x events
-  lines-right x o events = lines-by events refl (fresh-stands h o)
-
-pub rule-text : (r : List ℕ) → ((i : ℕ) → getD r i 0 < 256) → ruleNumber r ≡ 0 → (events : List ℕ)
-    → ruleTextFrom (nodesOf r .fixed) (nodesOf r .sets) (nodesOf r .root) events ≡ ruleText (rule r) events
-rule-text r small accepted events =
-    rw (
-      lines-right (nodesOf r .fixed) (nodesOf r .sets) (nodesOf r .root) (root-small r accepted) (rule r) (nodes-own r small accepted) events,
-      root-size r accepted,
-    )
-
--- ---- the number of a rule file
-
-pub nodes-number : (r : List ℕ) {n : Nodes} → n ≡ nodesOf r → n .number ≡ ruleNumber r
-unfolding nodesOf
-nodes-number r made = ap (λ (n : Nodes). n .number) made
+-- ---- the bytes of the rule file
 
 take-below : (n : ℕ) (l : List ℕ) → ((i : ℕ) → getD l i 0 < 256) → (i : ℕ) → getD (take n l) i 0 < 256
 take-below zero l small i = omega arith
@@ -80,8 +73,8 @@ take-below (suc n) [] small i = omega arith
 take-below (suc n) (x ∷ l) small zero = small 0
 take-below (suc n) (x ∷ l) small (suc i) = take-below n l (λ j. small (suc j)) i
 
-rule-below : (s : List ℕ) → ((i : ℕ) → getD s i 0 < 256) → (i : ℕ) → getD (ruleIn s) i 0 < 256
-rule-below s small = take-below (wordAt s 0 0) (drop 2 s) (λ i. rw (getD-drop 2 s i 0) (small (2 + i)))
+rule-bytes : (s : List ℕ) → ((i : ℕ) → getD s i 0 < 256) → Bytes (ruleIn s)
+rule-bytes s small = all-bytes (ruleIn s) (take-below (wordAt s 0 0) (drop 2 s) (λ i. rw (getD-drop 2 s i 0) (small (2 + i))))
 
 -- ---- the text, by its outcome
 
@@ -148,34 +141,43 @@ text-stands s {output} {n} {l} p room =
     let long : length l ≡ length output = ap length bytes ∙ length-sets output 0 (text s) in
     (omega (arith, p .long), bytes)
 
--- ---- the code: an input whose rule file is k bytes long, and the nodes of that file
+-- ---- the code: an input whose rule file is k bytes long, and the rule of that file
 
-module _ (s : List ℕ) {k : ℕ} (is : k ≡ wordAt s 0 0) {n : Nodes} (made : n ≡ nodesOf (take (2 + k - 2) (drop 2 s))) where
-  nodes-in : n ≡ nodesOf (ruleIn s)
-  nodes-in =
+module _ (s : List ℕ) {k : ℕ} (is : k ≡ wordAt s 0 0) {n : Ready} (made : n ≡ readyOf (take (2 + k - 2) (drop 2 s))) where
+  ready-in : n ≡ readyOf (ruleIn s)
+  ready-in =
       let e : 2 + k - 2 ≡ wordAt s 0 0 = omega arith in
-      made ∙ ap (λ (m : ℕ). nodesOf (take m (drop 2 s))) e
+      made ∙ ap (λ (m : ℕ). readyOf (take m (drop 2 s))) e
 
   number-in : n .number ≡ ruleNumber (ruleIn s)
-  number-in = nodes-number (ruleIn s) nodes-in
+  number-in = ap (λ (r : Ready). r .number) ready-in ∙ ready-number (ruleIn s)
 
   pub number-two-digits : n .number < 100
   number-two-digits = omega (arith, rule-number (ruleIn s), number-in)
 
-  pub nodes-wide : (length (n .fixed) ≡ 64) × (length (n .sets) ≡ 64)
-  nodes-wide = rw nodes-in (nodes-long (ruleIn s))
+  pub nodes-wide : (length (n .nodes) ≡ 64) × (length (n .gain) ≡ 64)
+  nodes-wide = rw ready-in (ready-long (ruleIn s))
 
   pub root-in : n .number ≡ 0 → n .root < 64
-  root-in e = rw nodes-in (root-small (ruleIn s) (sym number-in ∙ e))
+  root-in e = rw ready-in (root-few (ruleIn s) (sym number-in ∙ e))
 
   module _ (few : length s ≤ 8192) (some : 2 ≤ length s) (whole : k ≤ length s - 2) where
-    pub text-nodes-refused : n .number ≢ 0 → text s ≡ refusedText (n .number)
-    text-nodes-refused h = rw number-in (text-refused s few some (omega arith) (λ e. h (number-in ∙ e)))
+    pub text-refused-in : n .number ≢ 0 → text s ≡ refusedText (n .number)
+    text-refused-in h = rw number-in (text-refused s few some (omega arith) (λ e. h (number-in ∙ e)))
 
-    pub text-nodes : ((i : ℕ) → getD s i 0 < 256) → n .number ≡ 0
-        → text s ≡ ruleTextFrom (n .fixed) (n .sets) (n .root) (take (length s - (2 + k)) (drop (2 + k) s))
-    text-nodes small accepted =
-        let e = sym number-in ∙ accepted in
-        let all : take (length s - (2 + k)) (drop (2 + k) s) ≡ eventsIn s =
-        take-all (length s - (2 + k)) (drop (2 + k) s) (rw (length-drop (2 + k) s) (omega arith)) ∙ ap (λ (m : ℕ). drop (2 + m) s) is in
-        text-rule s few some (omega arith) e ∙ rw (all, nodes-in) (sym (rule-text (ruleIn s) (rule-below s small) e (eventsIn s)))
+    events-in : take (length s - (2 + k)) (drop (2 + k) s) ≡ eventsIn s
+    events-in = take-all (length s - (2 + k)) (drop (2 + k) s) (rw (length-drop (2 + k) s) (omega arith)) ∙ ap (λ (m : ℕ). drop (2 + m) s) is
+
+    module _ (small : (i : ℕ) → getD s i 0 < 256) (accepted : n .number ≡ 0) where
+      accepts : ruleNumber (ruleIn s) ≡ 0
+      accepts = sym number-in ∙ accepted
+
+      -- what the player writes is the answers of the rule, and the text made of them that of the input
+      pub fed-in : fedFrom (n .nodes) (n .gain) (n .leaves) (n .repeats) (n .root) (n .fresh) (take (length s - (2 + k)) (drop (2 + k) s))
+          ≡ answerBytes (answers (rule (ruleIn s)) (take (length s - (2 + k)) (drop (2 + k) s)))
+      unfolding fedBytes
+      fed-in = rw ready-in (rule-fed (ruleIn s) (rule-bytes s small) accepts (take (length s - (2 + k)) (drop (2 + k) s)))
+
+      pub text-in : text s
+          ≡ ruleTextOf (n .root) (take (length s - (2 + k)) (drop (2 + k) s)) (answers (rule (ruleIn s)) (take (length s - (2 + k)) (drop (2 + k) s)))
+      text-in = text-rule s few some (omega arith) accepts ∙ rw (events-in, ready-in) (sym (rule-text (ruleIn s) accepts (eventsIn s)))

@@ -1,4 +1,4 @@
--- The printer's text (document 01, "Printer"), as a list of bytes for every input.
+-- What a reader must believe: the printer's text (document 01, "Printer"), as a list of bytes for every input.
 use Prim.Native.Nat.{ℕ, _+_, _-_, _/_, _%_}
 use mathlib.Core.Bool.{cond}
 use mathlib.Core.List.{List, [], _∷_, _++_}

@@ -2,24 +2,51 @@
 pub mod text; // text.rt: words, numbers and lines
 
 ghost use mathlib.Core.Path.{_≡_};
+ghost use mathlib.Core.List.{List};
 ghost use Prim.Native.Nat.{_*_, _<_, _≤_};
-ghost use lib.ListN.{length};
-ghost use lib.Seq.{sets as setsAt};
+ghost use lib.ListN.{length, drop};
+ghost use Rattle.par.specs.declared.Answer.{Answer};
+ghost use Rattle.engine.specs.Feed.{answerBytes};
+ghost use Rattle.engine.specs.Mirror.Feed.{fedFrom};
 ghost use Rattle.printout.specs.Text.{text as textOf};
-ghost use Rattle.printout.specs.Printed.{PrintedAs, linesFrom, ruleTextFrom};
-use par::Notices;
+ghost use Rattle.printout.specs.Printed.{PrintedAs};
+ghost use Rattle.printout.specs.Mirror.Lines.{linesOf, ruleTextOf};
 
-// Prints the answers of a rule's nodes, where they fit; how long the text is.
+// Prints a line for each event, from the answer records that stand at the output's end. A line is longer than a record, so none is overwritten
+// before it is read.
+fn put_lines(events: &[u8], output: &mut [u8])
+    requires { ⌜ (length (now output) ≡ 16 * length (now events)) × (length (now events) ≤ 8192) ⌝ }
+    ensures { λ _. ⌜ ((rs : List Answer) → length rs ≡ length (now (events .entry))
+        → drop (9 * length (now (events .entry))) (now (output .entry)) ≡ answerBytes rs
+        → now (output .exit) ≡ linesOf (now (events .entry)) rs) ⌝ }
+{
+    let n = events.len();
+    let mut i = 0;
+    while i < n {
+        let from = 9 * n + 7 * i;
+        let notices = text::notices_of(output[from + 4], output[from + 5]);
+        let status = text::status_of(output[from + 6]);
+        let at = 16 * i;
+        text::put_line(&mut output[at..], events[i], notices, status);
+        i += 1;
+    }
+}
+
+// Prints the answers of a rule's nodes, where they fit; how long the text is. The records of the answers go where the lines end.
 fn put_rule<'a>(
-    fixed: &'a [u32; 64],
-    sets: &'a [Notices; 64],
+    nodes: &'a [u16; 64],
+    gain: &'a [u64; 64],
+    leaves: u64,
+    repeats: u64,
     root: usize,
+    fresh: u64,
     events: &[u8],
     output: &mut [u8],
 ) -> usize
-    requires { ⌜ ((length (now fixed) ≡ 64) × (length (now sets) ≡ 64)) × ((root < 64) × (length (now events) ≤ 8192)) ⌝ }
-    ensures { λ r. ⌜ PrintedAs (ruleTextFrom (now (fixed .entry)) (now (sets .entry)) root (now (events .entry))) (now (output .entry)) r
-        (now (output .exit)) ⌝ }
+    requires { ⌜ ((root < 64) × (length (now nodes) ≡ 64) × (length (now gain) ≡ 64)) × (length (now events) ≤ 8192) ⌝ }
+    ensures { λ r. ⌜ ((rs : List Answer) → length rs ≡ length (now (events .entry))
+        → fedFrom (now (nodes .entry)) (now (gain .entry)) leaves repeats root fresh (now (events .entry)) ≡ answerBytes rs
+        → PrintedAs (ruleTextOf root (now (events .entry)) rs) (now (output .entry)) r (now (output .exit))) ⌝ }
 {
     let size = (root + 1) as u8;
     let head = 6 + text::decimal_length(size);
@@ -29,41 +56,12 @@ fn put_rule<'a>(
     }
     text::put_word(output, 0, b"rule ");
     text::put_decimal(output, 5, size);
-    put_lines(fixed, sets, root, events, &mut output[head..]);
+    let place = head + 9 * events.len();
+    engine::feed::feed(
+        nodes, gain, leaves, repeats, root, fresh, events, output, place,
+    );
+    put_lines(events, &mut output[head..n]);
     n
-}
-
-// Prints a line for each event.
-fn put_lines<'a>(
-    fixed: &'a [u32; 64],
-    sets: &'a [Notices; 64],
-    root: usize,
-    events: &[u8],
-    output: &mut [u8],
-)
-    requires { ⌜ ((length (now fixed) ≡ 64) × (length (now sets) ≡ 64)) × (16 * length (now events) ≤ length (now output)) ⌝ }
-    ensures { λ _. ⌜ now (output .exit) ≡ setsAt (now (output .entry)) 0 (linesFrom (now (fixed .entry)) (now (sets .entry)) root (now (events .entry))) ⌝ }
-{
-    let mut phases = [0u8; 64];
-    let mut done = false;
-    let mut at = 0;
-    let mut i = 0;
-    while i < events.len() {
-        let event = events[i];
-        let mut sent = 0;
-        let w = engine::feed::advance(fixed, sets, &mut phases, &mut sent, root, done, event);
-        text::put_line(
-            &mut output[at..],
-            event,
-            sent,
-            engine::moves::word_status(w),
-        );
-        if w % 4 != 0 {
-            done = true;
-        }
-        at += 16;
-        i += 1;
-    }
 }
 
 // The text for an input: two bytes of length, a rule file of that length, then the events. It is written at the front of `output` where it
@@ -82,15 +80,18 @@ pub fn print(input: &[u8], output: &mut [u8]) -> usize
         return text::put_refusal(output, 2);
     }
     let start = 2 + size;
-    let nodes = engine::writing::nodes_of(&input[2..start]);
-    let number = nodes.number;
+    let ready = ready::ready_of(&input[2..start]);
+    let number = ready.number;
     if number != 0 {
         return text::put_refusal(output, number);
     }
     put_rule(
-        &nodes.fixed,
-        &nodes.sets,
-        nodes.root,
+        &ready.nodes,
+        &ready.gain,
+        ready.leaves,
+        ready.repeats,
+        ready.root,
+        ready.fresh,
         &input[start..],
         output,
     )

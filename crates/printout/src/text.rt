@@ -1,10 +1,11 @@
 // Words, numbers and lines of the printer's text, written into the output.
 ghost use mathlib.Core.Path.{_≡_};
-ghost use Prim.Native.Nat.{_+_, _<_, _≤_};
+ghost use Prim.Native.Nat.{_+_, _*_, _<_, _≤_};
 ghost use lib.ListN.{length};
 ghost use lib.Seq.{sets};
 ghost use Rattle.printout.specs.Text.{hexDigit, decimalLength, decimal, statusWord, line, refusedText};
 ghost use Rattle.printout.specs.Printed.{PrintedAs};
+ghost use Rattle.printout.specs.Mirror.Lines.{statusOf};
 use par::Notices;
 use par::Status;
 
@@ -54,6 +55,26 @@ pub fn put_decimal(out: &mut [u8], at: usize, n: u8)
     out[at] = 48 + n / 10;
     out[at + 1] = 48 + n % 10;
     out[at + 2] = 10;
+}
+
+// The notice set of an answer record, from its two bytes.
+pub fn notices_of(low: u8, high: u8) -> Notices
+    ensures { λ n. ⌜ n ≡ low + 256 * high ⌝ }
+{
+    low as Notices + 256 * (high as Notices)
+}
+
+// Its status: 0 is waiting, 1 success, 2 failure.
+pub fn status_of(byte: u8) -> Status
+    ensures { λ s. ⌜ s ≡ statusOf byte ⌝ }
+{
+    if byte == 0 {
+        return Status::Waiting;
+    }
+    if byte == 1 {
+        return Status::Success;
+    }
+    Status::Failure
 }
 
 // Writes the word of a status in its place in a line.

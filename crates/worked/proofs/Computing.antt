@@ -21,7 +21,7 @@ use Rattle.files.specs.Rule.{nodeIn, exprOf, rule, ruleNumber}
 use Rattle.files.specs.Swap.{swapBytes}
 use Rattle.engine.specs.declared.Desk.{Desk}
 use Rattle.engine.specs.Feed.{answerBytes, ranNumber}
-use Rattle.engine.specs.Desk.{openedOf}
+use Rattle.engine.specs.Mirror.Desk.{openedOf}
 use Rattle.engine.specs.History.{Call.opening, Call.stepping, Back, Back.numbered, desksBack}
 use Rattle.engine.proofs.DeskRuns.{replies}
 use Rattle.engine.proofs.Promises.{run-writes, desk-is-run}

@@ -1,6 +1,6 @@
 -- `engine::empty` meets its contract.
 use mathlib.Core.Path.{refl}
-use Rattle.engine.specs.Desk.{emptyDesk}
+use Rattle.engine.specs.Mirror.Desk.{emptyDesk}
 use Rattle.engine.proofs.empty.Statement.{statement}
 use Rattle.engine.proofs.empty.Tie as tie
 

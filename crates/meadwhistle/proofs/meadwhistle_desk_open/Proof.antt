@@ -38,7 +38,7 @@ use denote.Triple.Spec.{Meets, tripleOf}
 use denote.Triple.Table.{entered, cited}
 use denote.Triple.Walked.{says, Stays, gave-ref, stay-none-slice, walkOf, AllGo, goes-none-slice, goes-gave-ref, Walks, ends-at, walked, walk-meets}
 use denote.Exit.{yes}
-use Rattle.engine.specs.Desk.{openedOf}
+use Rattle.engine.specs.Mirror.Desk.{openedOf}
 use Rattle.engine.specs.declared.Desk.{Desk}
 use Rattle.engine.proofs.Desk as T
 use Rattle.engine.proofs.open as work

@@ -36,12 +36,14 @@ use denote.Triple.Spec.{Meets, tripleOf}
 use denote.Triple.Table.{entered, cited}
 use denote.Triple.Walked.{says, Stays, gave-ref, stay-none, walkOf, AllGo, goes-none, goes-gave-ref, Walks, ends-at, walked, walk-meets}
 use denote.Exit.{yes}
-use Rattle.engine.specs.Desk.{steppedOf}
+use Rattle.engine.specs.Mirror.Desk.{steppedOf}
+use Rattle.engine.specs.History.{ByTheBook}
 use Rattle.engine.specs.Cost.{WithinRule}
 use Rattle.engine.specs.declared.Desk.{Desk}
 use Rattle.engine.specs.declared.Reply.{Reply}
 use Rattle.meadwhistle.specs.Flat.{flatReply}
 use Rattle.meadwhistle.specs.declared.FlatReply.{FlatReply}
+use Rattle.engine.proofs.Promises.{by-the-book}
 use Rattle.engine.proofs.Desk as T
 use Rattle.engine.proofs.Reply as P
 use Rattle.engine.proofs.Reply.Laws as P′
@@ -95,12 +97,12 @@ module _ {M : Type 1} (𝓤 : URA M) (H : Heap 𝓤) (A : Atoms 𝓤) (W : Given
       qed W ((‵ (flft κ q) ⊛ ‵ ftrue) ∷ ‵ (fres γ (T.the-row .coded .code d)) ∷ []) ∵
       suffices ! _
       (ends-at 𝓤 H A f.ended stayed (f.clauses 𝓤 H A mem run) W (((κ, tt), (q, tt), tt, x, at), tt) v u (d, (tt, tt)) (tt, (tt, tt))) $
-      says ! (e, e′, few) $ frame ! $ nothing ! $ owned ! u8 (Is u8) (uint-makes 𝓤 H A W w8) n _ (refl, fits) $ fjoin ! $ move ! (1 ∷ 0 ∷ []) $ fjoin ! $
+      says ! (e, e′, (λ calls bytes made. e ∙ ap flatReply (by-the-book h n calls bytes made)), few) $ frame ! $ nothing ! $ owned ! u8 (Is u8) (uint-makes 𝓤 H A W w8) n _ (refl, fits) $ fjoin ! $ move ! (1 ∷ 0 ∷ []) $ fjoin ! $
       owned ! R.the-row (Is R.the-row) (LL.makes R.the-type R′.the-plain 𝓤 H A) u _ is $ move ! (1 ∷ 0 ∷ []) $ done !
 
   -- what `step` says of its reply and of the desk's last value
   abbrev Said : Reply → Desk → Type 0
-  Said r d = (r ≡ steppedOf h n .reply) × (d ≡ steppedOf h n .desk) × WithinRule h (r .answer .lines)
+  Said r d = (r ≡ steppedOf h n .reply) × (d ≡ steppedOf h n .desk) × ByTheBook h n r × WithinRule h (r .answer .lines)
 
   -- the call of `step`: it binds what this function binds
   abbrev to-step : Step 𝓤 H A mem run .Ghost
@@ -148,7 +150,7 @@ module _ {M : Type 1} (𝓤 : URA M) (H : Heap 𝓤) (A : Atoms 𝓤) (W : Given
         returns ! (look ! 10 refl) $ forget ! 2 refl $ forget ! 4 refl $ forget ! 6 refl $ forget ! 8 refl $ forget ! 10 refl $
         move ! (10 ∷ 11 ∷ []) $ free1 ! $ move ! (8 ∷ 9 ∷ []) $ free1 ! $ move ! (6 ∷ 7 ∷ []) $ free1 ! $
         move ! (4 ∷ 5 ∷ []) $ free1 ! $ move ! (2 ∷ 3 ∷ []) $ free1 ! $ free0 ! $
-        by ! (exits (zs .0) u v is′ (e′ ∙ ap flatReply (e .0)) (e .1) (rw e′ (e .2)))))))))))))))))
+        by ! (exits (zs .0) u v is′ (e′ ∙ ap flatReply (e .0)) (e .1) (rw e′ (e .3)))))))))))))))))
 
 module _ {M : Type 1} (𝓤 : URA M) (H : Heap 𝓤) (A : Atoms 𝓤) (W : Given 𝓤 H A) (mem : Memory → SProp 𝓤) (run : Routine → Fun 𝓤) where
   step-walks : (C : Calls 𝓤 H) (Λ : Loops 𝓤 H) → FmC 𝓤 H (W .laws) C → Triple 𝓤 (C #engine·step) (Step 𝓤 H A mem run)

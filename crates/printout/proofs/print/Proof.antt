@@ -1,7 +1,9 @@
 -- `printout::print` meets its contract, by outcome: 17, 2, the number of the file, the text of the rule.
+use Prim.Native.Nat.{ℕ, _<_}
 use native.Mathlib.Omega.{arith}
-use lib.ListN.{length-take, length-drop}
-use Rattle.printout.proofs.Texts.{text-large, text-short, text-cut, number-two-digits, nodes-wide, root-in, text-nodes-refused, text-nodes}
+use lib.ListN.{getD, length-take, length-drop}
+use Rattle.printout.proofs.Lines.{answers-many}
+use Rattle.printout.proofs.Texts.{text-large, text-short, text-cut, number-two-digits, nodes-wide, root-in, text-refused-in, fed-in, text-in}
 use borrow.Author.Needs.{needs}
 use Rattle.printout.proofs.print.Statement.{statement}
 use Rattle.printout.proofs.print.Tie as tie
@@ -51,23 +53,23 @@ returns-3 c =
 add-start : tie.Need-add-start
 add-start c = search needs
 
-sub-nodes-of : tie.Need-sub-nodes-of
-sub-nodes-of c = search needs
+sub-ready-of : tie.Need-sub-ready-of
+sub-ready-of c = search needs
 
-part-nodes-of-start : tie.Need-part-nodes-of-start
-part-nodes-of-start c = search needs
+part-ready-of-start : tie.Need-part-ready-of-start
+part-ready-of-start c = search needs
 
-part-nodes-of-end : tie.Need-part-nodes-of-end
-part-nodes-of-end c = search needs
+part-ready-of-end : tie.Need-part-ready-of-end
+part-ready-of-end c = search needs
 
-nodes-of-requires : tie.Need-nodes-of-requires
-nodes-of-requires c κs = search needs
+ready-of-requires : tie.Need-ready-of-requires
+ready-of-requires c κs = search needs
 
 put-refusal-requires-4 : tie.Need-put-refusal-requires-4
 put-refusal-requires-4 c κs =
     let b = c .before .before in
     number-two-digits (b .before .before .before .before .before .before .before .before .args .input .now) (b .before .before .before .part-at .ensures)
-    (b .nodes-of .ensures)
+    (b .ready-of .ensures)
 
 same-length-4 : tie.Need-same-length-4
 same-length-4 c = search needs
@@ -79,7 +81,7 @@ returns-4 c =
     let p = n .before .before .before in
     let s = p .before .before .before .before .before .args .input .now in
     let refused =
-    text-nodes-refused s (p .part-at .ensures) (n .nodes-of .ensures) (p .before .before .if1 .left) (p .before .if2 .left) (n .before .before .if3 .left)
+    text-refused-in s (p .part-at .ensures) (n .ready-of .ensures) (p .before .before .if1 .left) (p .before .if2 .left) (n .before .before .if3 .left)
     (b .if4 .taken) in
     rw refused (c .before .before .put-refusal4 .ensures)
 
@@ -96,12 +98,10 @@ put-rule-requires : tie.Need-put-rule-requires
 put-rule-requires c κs =
     let n = c .before .before .before .before .before .before in
     let p = n .before .before .before in
-    let s = p .before .before .before .before .before .args .input .now in (
-      nodes-wide s (p .part-at .ensures) (n .nodes-of .ensures),
-      (
-        root-in s (p .part-at .ensures) (n .nodes-of .ensures) (c .before .before .before .before .before .if4 .left),
-        simp (length-take, length-drop) (omega (arith, p .before .before .if1 .left)),
-      ),
+    let s = p .before .before .before .before .before .args .input .now in
+    let wide = nodes-wide s (p .part-at .ensures) (n .ready-of .ensures) in (
+      (root-in s (p .part-at .ensures) (n .ready-of .ensures) (c .before .before .before .before .before .if4 .left), wide .0, wide .1),
+      simp (length-take, length-drop) (omega (arith, p .before .before .if1 .left)),
     )
 
 same-length-5 : tie.Need-same-length-5
@@ -113,10 +113,13 @@ returns-5 c =
     let n = b .before in
     let p = n .before .before .before in
     let s = p .before .before .before .before .before .args .input .now in
-    let is =
-    text-nodes s (p .part-at .ensures) (n .nodes-of .ensures) (p .before .before .if1 .left) (p .before .if2 .left) (n .before .before .if3 .left)
-    (λ i. omega (arith, p .before .before .before .before .shared-slice-known .given i)) (b .if4 .left) in
-    rw is (c .before .before .put-rule .ensures)
+    let few = p .before .before .if1 .left in
+    let some = p .before .if2 .left in
+    let whole = n .before .before .if3 .left in
+    let small : (i : ℕ) → getD s i 0 < 256 = λ i. omega (arith, p .before .before .before .before .shared-slice-known .given i) in
+    let is = text-in s (p .part-at .ensures) (n .ready-of .ensures) few some whole small (b .if4 .left) in
+    let fed = fed-in s (p .part-at .ensures) (n .ready-of .ensures) few some whole small (b .if4 .left) in
+    rw is (c .before .before .put-rule .ensures _ (answers-many _ _) fed)
 
 pub print-spec : {M : Type 1} → statement M
 print-spec =
@@ -134,10 +137,10 @@ print-spec =
     same-length-3
     returns-3
     add-start
-    sub-nodes-of
-    part-nodes-of-start
-    part-nodes-of-end
-    nodes-of-requires
+    sub-ready-of
+    part-ready-of-start
+    part-ready-of-end
+    ready-of-requires
     put-refusal-requires-4
     same-length-4
     returns-4

@@ -1,15 +1,12 @@
 -- `printout::put_rule` meets its contract.
+use Prim.Native.Nat.{_+_, _-_, _*_}
 use mathlib.Core.Path.{_≡_}
-use Prim.Native.Nat.{_+_}
-use mathlib.Core.Bool.{false}
-use mathlib.Core.List.{replicate}
 use native.Mathlib.Omega.{arith}
+use lib.ListN.{length}
 use Rattle.printout.specs.Text.{decimalLength}
-use Rattle.printout.specs.Printed.{linesFrom}
 use Rattle.printout.proofs.Words.{decimal-few}
 use Rattle.printout.proofs.Outputs.{printed-fits, printed-not}
-use Rattle.printout.proofs.Lines.{lines-long}
-use Rattle.printout.proofs.Texts.{rule-put, rule-long}
+use Rattle.printout.proofs.Texts.{rule-long, rule-records, rule-put}
 use borrow.Author.Needs.{needs}
 use Rattle.printout.proofs.put_rule.Statement.{statement}
 use Rattle.printout.proofs.put_rule.Tie as tie
@@ -36,7 +33,7 @@ returns : tie.Need-returns
 returns c =
     let a = c .before .before .before .before .args in
     let head : 6 + c .before .decimal-length .result ≡ 6 + decimalLength (a .root + 1) = omega (arith, c .before .decimal-length .ensures) in
-    printed-not (rule-long (a .fixed .now) (a .sets .now) (a .root) (a .events .now) head) (c .if1 .taken)
+    λ rs many fed. printed-not (rule-long (a .output .now) (a .root) (a .events .now) rs many head) (c .if1 .taken)
 
 slice-aggregate-put-word : tie.Need-slice-aggregate-put-word
 slice-aggregate-put-word c = search needs
@@ -46,6 +43,15 @@ put-word-requires c κs = search needs
 
 put-decimal-requires : tie.Need-put-decimal-requires
 put-decimal-requires c κs = search needs
+
+mul-place : tie.Need-mul-place
+mul-place c = search needs
+
+add-place : tie.Need-add-place
+add-place c = search needs
+
+feed-requires : tie.Need-feed-requires
+feed-requires c κs = search needs
 
 sub-put-lines : tie.Need-sub-put-lines
 sub-put-lines c = search needs
@@ -64,16 +70,22 @@ same-length c = search needs
 
 returns-2 : tie.Need-returns-2
 returns-2 c =
-    let b = c .before .before .before .before .before .before in
-    let w = b .before .before .before .before in
-    let d = w .before .before .before .before in
-    let a = d .before .before .before .args in
-    let head : 6 + d .decimal-length .result ≡ 6 + decimalLength (a .root + 1) = omega (arith, d .decimal-length .ensures) in
+    let p = c .before .before in
+    let f = p .before .before .before .before in
+    let d = f .before .before .before .before in
+    let w = d .before .before .before .before in
+    let l = w .before .before .before .before in
+    let a = l .before .before .before .args in
+    let n = length (a .events .now) in
+    let long = l .decimal-length .result in
+    let head : 6 + long ≡ 6 + decimalLength (a .root + 1) = omega (arith, l .decimal-length .ensures) in
     let fits = w .before .before .before .if1 .left in
-    printed-fits (rule-long (a .fixed .now) (a .sets .now) (a .root) (a .events .now) head) fits
-    (rule-put (a .output .now) (a .root + 1) (linesFrom (a .fixed .now) (a .sets .now) (a .root) (a .events .now)) head
-    (omega (arith, fits, lines-long (a .fixed .now) (a .sets .now) (a .root) (a .events .now) (replicate 64 0) false)) (w .put-word .ensures)
-    (b .put-decimal .ensures) (c .before .before .put-lines .ensures))
+    let part : 6 + long + 16 * n - (6 + long) ≡ 16 * n = omega arith in
+    λ rs many fed.
+    let records = rule-records (a .output .now) (a .root) (a .events .now) rs many head (w .put-word .ensures) (d .put-decimal .ensures) fits in
+    let written = rule-put (a .output .now) (a .root) (a .events .now) rs many head (w .put-word .ensures) (d .put-decimal .ensures) fits in
+    printed-fits (rule-long (a .output .now) (a .root) (a .events .now) rs many head) fits
+    (rw (p .put-lines .ensures rs many (rw (f .feed .ensures .1, fed, part) records), f .feed .ensures .1, fed, part) written)
 
 pub put-rule-spec : {M : Type 1} → statement M
 put-rule-spec =
@@ -89,6 +101,9 @@ put-rule-spec =
     slice-aggregate-put-word
     put-word-requires
     put-decimal-requires
+    mul-place
+    add-place
+    feed-requires
     sub-put-lines
     part-put-lines-start
     part-put-lines-end

@@ -1,0 +1,3 @@
+-- The mirror of the machine: the desk, and a whole feed.
+pub mod Desk
+pub mod Feed
