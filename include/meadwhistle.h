@@ -52,11 +52,13 @@ meadwhistle_ran meadwhistle_run(const uint8_t *rule, size_t rule_len,
  */
 typedef struct {
     uint8_t is_open;
-    uint8_t done;
     size_t root;
-    uint32_t fixed[64];
-    uint16_t sets[64];
-    uint8_t phases[64];
+    uint64_t leaves;
+    uint64_t repeats;
+    uint64_t active;
+    uint64_t going;
+    uint16_t nodes[64];
+    uint64_t gain[64];
 } meadwhistle_desk;
 
 /*

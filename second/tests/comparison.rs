@@ -68,10 +68,10 @@ fn a_difference_tells_what_was_given() {
 
     let sound = Case::desk(&swap_file(), b"");
     let refused = Case::desk(&[], b"");
-    let zeros = "00".repeat(63);
+    let (zeros, last) = ("00".repeat(8 * 63), "00".repeat(7));
     let expected = format!(
-        "difference after 1 cases, in desk: call 0 of the history (from 0): the desk's field phases \
-         is changed by a refused call\nbefore {zeros}00\nafter {zeros}01\nopen \n"
+        "difference after 1 cases, in desk: call 0 of the history (from 0): the desk's field gain \
+         is changed by a refused call\nbefore {zeros}00{last}\nafter {zeros}01{last}\nopen \n"
     );
     assert_eq!(told(RefusedOpeningTouches, [sound, refused]), expected);
 }
@@ -81,10 +81,15 @@ fn fields_are_their_bytes() {
     let bytes: Vec<u8> = (0..=255).cycle().take(Fields::LENGTH).collect();
     let fields = Fields::from_bytes(&bytes);
     assert_eq!(fields.to_bytes(), bytes);
-    assert_eq!((fields.is_open, fields.done), (0, 1));
-    assert_eq!(fields.root, 0x0908_0706_0504_0302);
-    assert_eq!(fields.fixed[0], 0x0d0c_0b0a);
-    assert_eq!(fields.phases[63], bytes[Fields::LENGTH - 1]);
+    assert_eq!(fields.is_open, 0);
+    assert_eq!(fields.root, 0x0807_0605_0403_0201);
+    assert_eq!(fields.leaves, 0x100f_0e0d_0c0b_0a09);
+    assert_eq!(fields.repeats, 0x1817_1615_1413_1211);
+    assert_eq!(fields.active, 0x201f_1e1d_1c1b_1a19);
+    assert_eq!(fields.going, 0x2827_2625_2423_2221);
+    assert_eq!(fields.nodes[0], 0x2a29);
+    assert_eq!(fields.gain[0], 0xb0af_aead_acab_aaa9);
+    assert_eq!(fields.gain[63].to_le_bytes(), bytes[Fields::LENGTH - 8..]);
 }
 
 #[test]

@@ -8,7 +8,7 @@ use crate::{Notices, Status};
 
 /// A place for one rule, which takes its events one by one.
 ///
-/// It is about half a kilobyte and holds all that the engine knows, so a clone goes its own way from there.
+/// It is about 700 bytes and holds all that the engine knows, so a clone goes its own way from there.
 ///
 /// ```
 /// use meadwhistle::{Desk, Status};

@@ -15,11 +15,13 @@ pub struct Ran {
 #[derive(Clone)]
 pub struct Desk {
     is_open: u8,
-    done: u8,
     root: usize,
-    fixed: [u32; 64],
-    sets: [u16; 64],
-    phases: [u8; 64],
+    leaves: u64,
+    repeats: u64,
+    active: u64,
+    going: u64,
+    nodes: [u16; 64],
+    gain: [u64; 64],
 }
 
 #[repr(C)]

@@ -6,8 +6,8 @@ const HEADER: &str = include_str!("../../../include/meadwhistle.h");
 /// The structs of `src/ffi.rs`, in the header's words.
 const STRUCTS: [&str; 4] = [
     "typedef struct { uint8_t number; size_t written; } meadwhistle_ran;",
-    "typedef struct { uint8_t is_open; uint8_t done; size_t root; uint32_t fixed[64]; uint16_t sets[64]; uint8_t phases[64]; } \
-     meadwhistle_desk;",
+    "typedef struct { uint8_t is_open; size_t root; uint64_t leaves; uint64_t repeats; uint64_t active; uint64_t going; \
+     uint16_t nodes[64]; uint64_t gain[64]; } meadwhistle_desk;",
     "typedef struct { uint8_t number; uint8_t status; uint16_t notices; uint64_t lines; } meadwhistle_reply;",
     "typedef struct { uint8_t file; size_t place; } meadwhistle_part;",
 ];

@@ -106,11 +106,14 @@ fn reply(step: &StepOutcome) -> Reply {
     }
 }
 
+/// No step uses more, whatever its desk holds.
+const MOST_LINES: u64 = 64;
+
 /// A step on a desk that holds any values: what an unfinished rule answers there is left open, but
-/// not that it is the same each time, nor which fields stay.
+/// not that it is the same each time, also where `going` is another, nor which fields stay.
 fn step_as_found<E: Engine>(engine: &E, desk: &mut E::Desk, event: u8) -> Result<Number, String> {
     let before = engine.fields(desk);
-    let mut copy = desk.clone();
+    let copy = desk.clone();
     let got = engine.step(desk, event);
     let after = engine.fields(desk);
     let quiet = |number: Number, lines| Reply {
@@ -124,24 +127,31 @@ fn step_as_found<E: Engine>(engine: &E, desk: &mut E::Desk, event: u8) -> Result
         unchanged("a refused step", &before, &after)?;
         return Ok(Number::NoRuleOpen);
     }
-    if before.done != 0 {
+    if before.active == 0 {
         same("reply", quiet(Number::Accepted, 1), got)?;
-        unchanged("a step of a finished rule", &before, &after)?;
+        same("going, of a finished rule", 0, after.going)?;
+        let going = before.going;
+        let others = Fields { going, ..after };
+        unchanged("a step of a finished rule", &before, &others)?;
         return Ok(Number::Accepted);
     }
     same("number", Number::Accepted.value(), got.number)?;
-    let fixed = Fields {
-        done: before.done,
-        phases: before.phases,
+    same("lines, at most", got.lines.min(MOST_LINES), got.lines)?;
+    let Fields { active, going, .. } = before;
+    let others = Fields {
+        active,
+        going,
         ..after
     };
-    unchanged("a step", &before, &fixed)?;
-    same(
-        "reply, on a copy of the desk",
-        got,
-        engine.step(&mut copy, event),
-    )?;
-    unchanged("the same step on a copy", &after, &engine.fields(&copy))?;
+    unchanged("a step", &before, &others)?;
+    let going = !going;
+    let otherwise = engine.desk_holding(&Fields { going, ..before });
+    for (name, mut desk) in [("a copy", copy), ("a copy with another going", otherwise)] {
+        let again = engine.step(&mut desk, event);
+        same(&format!("reply, on {name}"), got, again)?;
+        let by = format!("the same step on {name}");
+        unchanged(&by, &after, &engine.fields(&desk))?;
+    }
     Ok(Number::Accepted)
 }
 

@@ -7,30 +7,35 @@ const NODES: usize = 64;
 #[repr(C)]
 #[derive(Clone, Copy, Debug, PartialEq, Eq)]
 pub struct Fields {
-    /// Any value but 0 says that a rule is open ...
+    /// Any value but 0 says that a rule is open.
     pub is_open: u8,
-    /// ... and any but 0 that it has finished.
-    pub done: u8,
     pub root: usize,
-    pub fixed: [u32; NODES],
-    pub sets: [u16; NODES],
-    pub phases: [u8; NODES],
+    pub leaves: u64,
+    pub repeats: u64,
+    /// 0 says that an open rule has finished. A step changes this field and the next, no other.
+    pub active: u64,
+    /// What a step answers and leaves doesn't depend on it.
+    pub going: u64,
+    pub nodes: [u16; NODES],
+    pub gain: [u64; NODES],
 }
 
 impl Fields {
     /// How many bytes the fields have together, without those between them in memory.
-    pub const LENGTH: usize = 2 + size_of::<usize>() + NODES * (4 + 2 + 1);
+    pub const LENGTH: usize = 1 + size_of::<usize>() + 4 * 8 + NODES * (2 + 8);
 
     /// From the bytes of one field after the other, each lowest first. Missing ones are 0.
     pub fn from_bytes(bytes: &[u8]) -> Fields {
         let mut bytes = bytes.iter().copied();
         Fields {
             is_open: u8::from_le_bytes(next(&mut bytes)),
-            done: u8::from_le_bytes(next(&mut bytes)),
             root: usize::from_le_bytes(next(&mut bytes)),
-            fixed: [(); NODES].map(|()| u32::from_le_bytes(next(&mut bytes))),
-            sets: [(); NODES].map(|()| u16::from_le_bytes(next(&mut bytes))),
-            phases: next(&mut bytes),
+            leaves: u64::from_le_bytes(next(&mut bytes)),
+            repeats: u64::from_le_bytes(next(&mut bytes)),
+            active: u64::from_le_bytes(next(&mut bytes)),
+            going: u64::from_le_bytes(next(&mut bytes)),
+            nodes: [(); NODES].map(|()| u16::from_le_bytes(next(&mut bytes))),
+            gain: [(); NODES].map(|()| u64::from_le_bytes(next(&mut bytes))),
         }
     }
 
@@ -42,14 +47,16 @@ impl Fields {
     }
 
     /// Each field's name and its bytes.
-    pub fn by_name(&self) -> [(&'static str, Vec<u8>); 6] {
+    pub fn by_name(&self) -> [(&'static str, Vec<u8>); 8] {
         [
             ("is_open", vec![self.is_open]),
-            ("done", vec![self.done]),
             ("root", self.root.to_le_bytes().to_vec()),
-            ("fixed", self.fixed.map(u32::to_le_bytes).concat()),
-            ("sets", self.sets.map(u16::to_le_bytes).concat()),
-            ("phases", self.phases.to_vec()),
+            ("leaves", self.leaves.to_le_bytes().to_vec()),
+            ("repeats", self.repeats.to_le_bytes().to_vec()),
+            ("active", self.active.to_le_bytes().to_vec()),
+            ("going", self.going.to_le_bytes().to_vec()),
+            ("nodes", self.nodes.map(u16::to_le_bytes).concat()),
+            ("gain", self.gain.map(u64::to_le_bytes).concat()),
         ]
     }
 }

@@ -60,43 +60,60 @@ impl Origin {
 const MARKS: [u8; 5] = [0, 1, 2, 128, 255];
 const FILLS: [u8; 8] = [0, 1, 2, 6, 8, 63, 64, 255];
 
-/// Every choice of marks over fields filled with one value: stepped on, opened upon with a file that
-/// is refused, stepped on, opened upon, stepped on.
+/// Every choice of the mark and of what is in play, over fields filled with one value.
 pub fn filled() -> impl Iterator<Item = FoundDesk> {
-    let marks = MARKS
-        .iter()
-        .flat_map(|open| MARKS.map(|done| (*open, done)));
-    let filled = marks.flat_map(|marks| FILLS.map(|fill| (marks, fill)));
-    filled.map(|((is_open, done), fill)| {
-        let fields = Fields {
-            is_open,
-            done,
-            ..Fields::from_bytes(&[fill; Fields::LENGTH])
-        };
-        let mut calls: Vec<Call> = steps(b"oo").collect();
-        calls.push(Call::Open(swap_file()[..57].to_vec()));
-        calls.extend(steps(b"a"));
-        calls.push(Call::Open(swap_file()));
-        calls.extend(steps(b"oacowo"));
-        FoundDesk {
-            origin: Origin::Filled(Box::new(fields)),
-            calls,
-        }
+    FILLS.into_iter().flat_map(|fill| {
+        let in_play = [0, 1, 1 << 63, u64::MAX, u64::from_le_bytes([fill; 8])];
+        in_play
+            .into_iter()
+            .flat_map(move |active| MARKS.map(|is_open| filled_with(fill, is_open, active)))
     })
 }
 
-pub fn at_random(random: &mut Random) -> FoundDesk {
-    let origin = match random.below(3) {
-        0 => altered(random),
-        _ => Origin::Filled(Box::new(random_fields(random))),
+/// Stepped on, opened upon with a file that is refused, stepped on, opened upon, stepped on.
+fn filled_with(fill: u8, is_open: u8, active: u64) -> FoundDesk {
+    let fields = Fields {
+        is_open,
+        active,
+        ..Fields::from_bytes(&[fill; Fields::LENGTH])
     };
+    let mut calls: Vec<Call> = steps(&[b'o', fill]).collect();
+    calls.push(Call::Open(swap_file()[..57].to_vec()));
+    calls.extend(steps(b"a"));
+    calls.push(Call::Open(swap_file()));
+    calls.extend(steps(b"oacowo"));
+    FoundDesk {
+        origin: Origin::Filled(Box::new(fields)),
+        calls,
+    }
+}
+
+pub fn at_random(random: &mut Random) -> FoundDesk {
     let count = random.between(1, 6);
-    let mut calls: Vec<Call> = steps(&random.bytes(count)).collect();
+    let (origin, events) = match random.below(3) {
+        0 => altered(random, count),
+        _ => filled_at_random(random, count),
+    };
+    let mut calls: Vec<Call> = steps(&events).collect();
     calls.extend(openings_and_steps(random));
     FoundDesk { origin, calls }
 }
 
-/// Small bytes only in two of four, which come closer to what calls make. A mark is often 0.
+/// With events for it: any, or bytes of its nodes.
+fn filled_at_random(random: &mut Random, count: usize) -> (Origin, Vec<u8>) {
+    let fields = random_fields(random);
+    let of_nodes = fields.nodes.map(u16::to_le_bytes).concat();
+    let events = (0..count)
+        .map(|_| match random.below(3) {
+            0 => random.byte(),
+            _ => *random.pick(&of_nodes),
+        })
+        .collect();
+    (Origin::Filled(Box::new(fields)), events)
+}
+
+/// Small bytes only in two of four, which come closer to what calls make. The mark is often 0, and
+/// often nothing is in play.
 fn random_fields(random: &mut Random) -> Fields {
     let highest = *random.pick(&[9, 70, 255, 255]);
     let bytes: Vec<u8> = (0..Fields::LENGTH)
@@ -106,8 +123,8 @@ fn random_fields(random: &mut Random) -> Fields {
     if random.once_in(4) {
         fields.is_open = 0;
     }
-    if random.once_in(2) {
-        fields.done = 0;
+    if random.once_in(4) {
+        fields.active = 0;
     }
     if random.once_in(2) {
         fields.root = random.below(66);
@@ -115,19 +132,29 @@ fn random_fields(random: &mut Random) -> Fields {
     fields
 }
 
-fn altered(random: &mut Random) -> Origin {
+/// With events that the rule speaks of.
+fn altered(random: &mut Random, count: usize) -> (Origin, Vec<u8>) {
     let records = random_rule(random);
     let mut calls = vec![Call::Open(expression_file::write(&records))];
-    let count = random.below(10);
-    calls.extend(steps(&events_for(random, &records, count)));
+    let before = random.below(10);
+    calls.extend(steps(&events_for(random, &records, before)));
     let changes = (0..random.between(1, 6))
         .map(|_| Change {
-            place: random.below(Fields::LENGTH),
+            place: any_place(random),
             value: match random.below(2) {
                 0 => random.below(66) as u8,
                 _ => random.byte(),
             },
         })
         .collect();
-    Origin::Altered { calls, changes }
+    let events = events_for(random, &records, count);
+    (Origin::Altered { calls, changes }, events)
+}
+
+/// In any field as often as in any other, however many bytes it has.
+fn any_place(random: &mut Random) -> usize {
+    let all = Fields::from_bytes(&[]).by_name();
+    let lengths = all.map(|(_, bytes)| bytes.len());
+    let (before, from) = lengths.split_at(random.below(lengths.len()));
+    before.iter().sum::<usize>() + random.below(from[0])
 }

@@ -30,13 +30,19 @@ faults! {
     RefusedOpeningSetsItsMark,
     RefusedStepTouches,
     OpeningIsNotFresh,
-    OpeningLeavesItDone,
+    OpeningLeavesTheOldActive,
     OnlyOneIsOpen,
-    OnlyOneIsDone,
+    OnlyTheLowHalfIsInPlay,
     FinishedStepTouches,
+    FinishedStepLeavesGoing,
+    FinishedStepBringsIntoPlay,
     FoundStepTouches,
     FoundStepRefused,
     FoundStepCounts,
+    FoundStepMovesOnByItsCount,
+    FoundStepTakesManyLines,
+    FoundStepAnswersByGoing,
+    FoundStepLeavesGoing,
     LinesOffByOne,
     NoticesCut,
     StatusesExchanged,
@@ -58,7 +64,7 @@ pub struct Itself {
     stepped: Cell<u8>,
 }
 
-/// A desk beside the fields that it shows. Of those, the phases change as often as the desk does.
+/// A desk beside the fields that it shows. Of those, a step changes `active` and `going`.
 #[derive(Clone)]
 pub struct ShownDesk {
     desk: Desk,
@@ -67,8 +73,14 @@ pub struct ShownDesk {
 
 impl ShownDesk {
     fn touch(&mut self) {
-        let phase = &mut self.fields.phases[63];
-        *phase = phase.wrapping_add(1);
+        let gain = &mut self.fields.gain[63];
+        *gain = gain.wrapping_add(1);
+    }
+
+    /// Something stays in play.
+    fn move_on(&mut self) {
+        self.fields.going = self.fields.active;
+        self.fields.active = self.fields.active.rotate_left(1);
     }
 }
 
@@ -82,34 +94,51 @@ impl Itself {
 
     fn step_of_open_desk(&self, desk: &mut ShownDesk, event: u8) -> Reply {
         let finished = match self.fault {
-            OnlyOneIsDone => desk.fields.done == 1,
-            _ => desk.fields.done != 0,
+            OnlyTheLowHalfIsInPlay => desk.fields.active as u32 == 0,
+            _ => desk.fields.active == 0,
         };
         if finished {
-            if self.fault == FinishedStepTouches {
-                desk.touch();
+            if self.fault != FinishedStepLeavesGoing {
+                desk.fields.going = 0;
             }
-            return quiet(0, 1);
-        }
-        let step = desk.desk.step(event);
-        desk.touch();
-        if step.number.value() != 0 {
-            // Found with a rule open that this implementation knows nothing of.
             match self.fault {
-                FoundStepTouches => desk.fields.sets[0] ^= 1,
-                FoundStepRefused => return quiet(15, 0),
-                FoundStepCounts => return quiet(0, u64::from(self.stepped.get())),
+                FinishedStepTouches => desk.touch(),
+                FinishedStepBringsIntoPlay => desk.fields.active = 1,
                 _ => {}
             }
             return quiet(0, 1);
         }
-        desk.fields.done = u8::from(step.status.byte() != 0);
+        let step = desk.desk.step(event);
+        if step.number.value() != 0 {
+            return self.step_as_found(desk);
+        }
+        desk.move_on();
+        if step.status.byte() != 0 {
+            desk.fields.active = 0;
+        }
         Reply {
             number: 0,
             notices: step.notices,
             status: step.status.byte(),
             lines: step.lines,
         }
+    }
+
+    /// The desk was found with a rule open that this implementation knows nothing of.
+    fn step_as_found(&self, desk: &mut ShownDesk) -> Reply {
+        let going = desk.fields.going;
+        desk.move_on();
+        match self.fault {
+            FoundStepTouches => desk.fields.nodes[0] ^= 1,
+            FoundStepRefused => return quiet(15, 0),
+            FoundStepCounts => return quiet(0, u64::from(self.stepped.get() % 64)),
+            FoundStepMovesOnByItsCount => desk.fields.active = u64::from(self.stepped.get()),
+            FoundStepTakesManyLines => return quiet(0, 65),
+            FoundStepAnswersByGoing => return quiet(0, going % 2),
+            FoundStepLeavesGoing => desk.fields.going = going,
+            _ => {}
+        }
+        quiet(0, 1)
     }
 }
 
@@ -156,8 +185,8 @@ impl Engine for Itself {
             if self.fault != OpeningIsNotFresh || desk.fields.is_open == 0 {
                 desk.desk = opened;
             }
-            if self.fault != OpeningLeavesItDone {
-                desk.fields.done = 0;
+            if self.fault != OpeningLeavesTheOldActive {
+                desk.fields.active = 1;
             }
             desk.fields.is_open = 1;
             return 0;
