@@ -3,9 +3,8 @@
 use meadwhistle::{Desk, Status};
 use second::examples::swap_file;
 use second::generate::rules::file_of;
-use second::random::Random;
 use second::rule::read_running_rule;
-use second::tree::build::{event, not, repeat};
+use second::tree::build::{either, event, repeat};
 
 use crate::feeds::STEADY;
 use crate::text;
@@ -34,18 +33,14 @@ pub fn report() {
         &swap_file(),
         &STEADY.events(EVENTS),
     );
-    let nots = (0..62).fold(event(b'a'), |x, _| not(&x));
+    let a = event(b'a');
+    let eithers = (0..31).fold(a.clone(), |x, _| either(&a, &x));
     report_on(
-        "the costliest rule found, repeat around 62 nots around a",
-        "a or b, at random",
-        &file_of(&repeat(&nots)),
-        &a_or_b(),
+        "the costliest rule found, repeat around 31 eithers, each of a and the next",
+        "a alone",
+        &file_of(&repeat(&eithers)),
+        &vec![b'a'; EVENTS],
     );
-}
-
-fn a_or_b() -> Vec<u8> {
-    let mut random = Random::seeded(20244);
-    (0..EVENTS).map(|_| b'a' + random.below(2) as u8).collect()
 }
 
 fn report_on(rule: &str, events: &str, file: &[u8], feed: &[u8]) {
