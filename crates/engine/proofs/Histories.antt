@@ -12,11 +12,11 @@ use Rattle.files.specs.Rule.{rule, ruleNumber}
 use Rattle.engine.specs.declared.Desk.{Desk}
 use Rattle.engine.specs.declared.Moved.{Moved}
 use Rattle.engine.specs.Mirror.Desk.{emptyDesk, freshDesk, openedOf, steppedOf}
-use Rattle.engine.specs.History.{Call, Call.opening, Call.stepping, Back.replied, BytesIn}
-use Rattle.engine.specs.History.{Book, Book.closed, Book.«open», bookAfter, bookReply, bookBack, booksAfter, booksBack, ByTheBook}
+use Rattle.engine.specs.History.{Call, Call.opening, Call.stepping, Back.numbered, Back.replied, BytesIn}
+use Rattle.engine.specs.History.{Book, Book.closed, Book.«open», bookAfter, bookReply, bookBack, booksAfter, booksBack, Remains, ByTheBook}
 use Rattle.engine.specs.History.{deskAfter, deskBack, desksAfter, desksBack}
 use Rattle.engine.proofs.Desks.{closed-step}
-use Rattle.engine.proofs.Sitting.{Sitting, fresh-sits, step-sits, step-answers}
+use Rattle.engine.proofs.Sitting.{Sitting, fresh-sits, sitting-remains, step-sits, step-answers}
 
 -- ---- a desk and its book
 
@@ -76,6 +76,21 @@ keeps-empty = shut refl
 pub history : (calls : List Call) → BytesIn calls → desksBack emptyDesk calls ≡ booksBack closed calls
 history calls bytes = both calls emptyDesk closed bytes keeps-empty
 
--- so of a step alone, on whatever desk such calls made
-pub by-the-book : (d : Desk) (a : ℕ) → ByTheBook d a (steppedOf d a .reply)
-by-the-book d a calls bytes e = step-replies d (booksAfter closed calls) (rw e (keeps-after calls emptyDesk closed bytes keeps-empty)) a
+-- ---- so of a call alone, on whatever desk such calls made
+
+keeps-remains : (d : Desk) (b : Book) → Keeps d b → Remains d b
+keeps-remains d closed (shut e) = e
+keeps-remains d («open» x feed) (sits s) = sitting-remains d x feed s
+
+kept : (d : Desk) (calls : List Call) → BytesIn calls → d ≡ desksAfter emptyDesk calls → Keeps d (booksAfter closed calls)
+kept d calls bytes e = rw e (keeps-after calls emptyDesk closed bytes keeps-empty)
+
+pub step-by-the-book : (d : Desk) (a : ℕ) → ByTheBook d (stepping a) (replied (steppedOf d a .reply)) (steppedOf d a .desk)
+step-by-the-book d a calls bytes e =
+    let now = steps d (booksAfter closed calls) a (kept d calls bytes e) in
+    (now .back, keeps-remains _ _ (now .after))
+
+pub open-by-the-book : (d : Desk) (s : List ℕ) → ByTheBook d (opening s) (numbered (openedOf d s .number)) (openedOf d s .desk)
+open-by-the-book d s calls bytes e =
+    let now = opens d (booksAfter closed calls) s (bytes .0) (kept d calls (bytes .1) e) in
+    (now .back, keeps-remains _ _ (now .after))

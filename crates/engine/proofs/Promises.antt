@@ -10,10 +10,12 @@ use Rattle.par.specs.Expr.{Expr, size}
 use Rattle.par.specs.Feed.{answer, answers, after, Bytes}
 use Rattle.par.proofs.Silence.{nothing}
 use Rattle.files.specs.Rule.{rule, ruleNumber}
+use Rattle.play.specs.Said.{remains}
 use Rattle.engine.specs.declared.Desk.{Desk}
 use Rattle.engine.specs.declared.feed.Ran.{Ran}
 use Rattle.engine.specs.Feed.{answerBytes, Fed}
-use Rattle.engine.specs.History.{Call, Call.stepping, BytesIn, Book.closed, desksAfter, desksBack, backBytes, booksAfter, booksBack, ByTheBook}
+use Rattle.engine.specs.History.{Call, Call.opening, Call.stepping, Back.numbered, Back.replied, BytesIn, Book.closed}
+use Rattle.engine.specs.History.{desksAfter, desksBack, backBytes, booksAfter, booksBack, ByTheBook}
 use Rattle.engine.specs.Cost.{ruleSize, WithinRule, NoneAccepted, LinesUpTo}
 use Rattle.engine.specs.Mirror.Desk.{emptyDesk, freshDesk, openedOf, refusal, put, steppedOf}
 use Rattle.engine.specs.Mirror.Feed.{fedBytes}
@@ -55,9 +57,12 @@ run-one = Runs.fed-one
 pub history : (calls : List Call) → BytesIn calls → desksBack emptyDesk calls ≡ booksBack closed calls
 history = Histories.history
 
--- So of a step alone, on whatever desk such calls made.
-pub by-the-book : (d : Desk) (a : ℕ) → ByTheBook d a (steppedOf d a .reply)
-by-the-book = Histories.by-the-book
+-- So of a call alone, on whatever desk such calls made: what comes back, and what remains.
+pub step-by-the-book : (d : Desk) (a : ℕ) → ByTheBook d (stepping a) (replied (steppedOf d a .reply)) (steppedOf d a .desk)
+step-by-the-book = Histories.step-by-the-book
+
+pub open-by-the-book : (d : Desk) (s : List ℕ) → ByTheBook d (opening s) (numbered (openedOf d s .number)) (openedOf d s .desk)
+open-by-the-book = Histories.open-by-the-book
 
 pub refused-opening : (d : Desk) (s : List ℕ) → ruleNumber s ≢ 0 → openedOf d s .desk ≡ d
 refused-opening = Desks.refused-opening
@@ -86,9 +91,9 @@ pub step-answers : (d : Desk) (x : Expr) (feed : List ℕ) → Sitting d x feed 
     → steppedOf d a .reply ≡ record { number = 0; answer = answer (after x feed) a }
 step-answers = Sitting.step-answers
 
--- What sits there is one expression: the two words fix what remains.
-pub sitting-one : (d : Desk) (x y : Expr) (feed feed' : List ℕ) → Sitting d x feed → Sitting d y feed' → after x feed ≡ after y feed'
-sitting-one = Sitting.sitting-one
+-- The two words fix what remains, and it is what the figures leave.
+pub sitting-remains : (d : Desk) (x : Expr) (feed : List ℕ) → Sitting d x feed → remains (d .nodes) (d .gain) (d .root) (d .active) (d .going) ≡ after x feed
+sitting-remains = Sitting.sitting-remains
 
 -- ---- A desk that is fed event by event and a whole feed that is run give the same
 

@@ -12,10 +12,11 @@ use Rattle.par.specs.Throughout.{Any, Fits}
 use Rattle.par.proofs.Throughout.{after-has}
 use Rattle.par.proofs.Weight.{lines-after}
 use Rattle.files.specs.Rule.{rule, ruleNumber}
+use Rattle.play.specs.Said.{remains}
 use Rattle.play.specs.Mirror.Step.{stepped}
 use Rattle.play.proofs.Plays.{Stands}
 use Rattle.play.proofs.Whole.{Good, right}
-use Rattle.play.proofs.Exact.{stands-one}
+use Rattle.play.proofs.Exact.{stands-said}
 use Rattle.ready.proofs.Promises.{ready-stands, root-few}
 use Rattle.engine.specs.declared.Desk.{Desk}
 use Rattle.engine.specs.declared.Onward.{Onward}
@@ -32,9 +33,9 @@ pub fresh-sits : (s : List ℕ) → Bytes s → ruleNumber s ≡ 0 → Sitting (
 unfolding freshDesk after
 fresh-sits s b e = record { open-is = refl; root-low = root-few s e; narrow = rule-narrow s b e; stands = ready-stands s e }
 
--- the two words say which expression it is
-pub sitting-one : (d : Desk) (x y : Expr) (feed feed′ : List ℕ) → Sitting d x feed → Sitting d y feed′ → after x feed ≡ after y feed′
-sitting-one d x y feed feed′ s t = stands-one (s .root-low) (s .stands) (t .stands)
+-- the two words say what remains
+pub sitting-remains : (d : Desk) (x : Expr) (feed : List ℕ) → Sitting d x feed → remains (d .nodes) (d .gain) (d .root) (d .active) (d .going) ≡ after x feed
+sitting-remains d x feed s = stands-said (s .root-low) (s .stands)
 
 -- ---- a step
 

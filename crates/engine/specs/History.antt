@@ -1,4 +1,4 @@
--- What a reader must believe of a desk: whatever openings and steps made it of an empty one, a book keeps the rule that was opened last and the
+-- What a reader must believe of a desk: whatever openings and steps made it of an empty one, a book keeps the rule that was accepted last and the
 -- events since, and the figures say the rest. `emptyDesk`, `openedOf` and `steppedOf` only name what the calls do.
 use Prim.Native.Nat.{ℕ}
 use mathlib.Core.Path.{_≡_}
@@ -9,6 +9,7 @@ use Rattle.par.specs.Status.{statusByte}
 use Rattle.par.specs.Expr.{Expr}
 use Rattle.par.specs.Feed.{answer, after, Bytes}
 use Rattle.files.specs.Rule.{rule, ruleNumber}
+use Rattle.play.specs.Said.{remains}
 use Rattle.engine.specs.declared.Desk.{Desk}
 use Rattle.engine.specs.declared.Reply.{Reply}
 use Rattle.engine.specs.Feed.{answerRecord}
@@ -47,7 +48,7 @@ unfoldable pub desksBack : Desk → List Call → List Back
 desksBack d [] = []
 desksBack d (c ∷ calls) = deskBack d c ∷ desksBack (deskAfter d c) calls
 
--- the records of the answers among what came back, as a whole feed writes them
+-- the records of the replies among what came back
 unfoldable pub backBytes : List Back → List ℕ
 backBytes [] = []
 backBytes (numbered n ∷ backs) = backBytes backs
@@ -81,8 +82,15 @@ unfoldable pub booksAfter : Book → List Call → Book
 booksAfter b [] = b
 booksAfter b (c ∷ calls) = booksAfter (bookAfter b c) calls
 
--- ---- what a step means
+-- ---- what a call means
 
--- whatever openings and steps made the desk of an empty one, the reply is the book's
-abbrev pub ByTheBook : Desk → ℕ → Reply → Type 0
-ByTheBook d a r = (calls : List Call) → BytesIn calls → d ≡ desksAfter emptyDesk calls → r ≡ bookReply (booksAfter closed calls) a
+-- what is left of the rule on a desk is what the book says
+abbrev pub Remains : Desk → Book → Type 0
+Remains d closed = d .is_open ≡ 0
+Remains d («open» x feed) = remains (d .nodes) (d .gain) (d .root) (d .active) (d .going) ≡ after x feed
+
+-- on every desk that openings and steps made of an empty one: the call gives back what the book says, and leaves what the book says
+abbrev pub ByTheBook : Desk → Call → Back → Desk → Type 0
+ByTheBook d c back d' =
+    (calls : List Call) → BytesIn (c ∷ calls) → d ≡ desksAfter emptyDesk calls
+    → (back ≡ bookBack (booksAfter closed calls) c) × Remains d' (bookAfter (booksAfter closed calls) c)

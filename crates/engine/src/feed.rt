@@ -135,7 +135,16 @@ pub fn feed<'a>(
     let mut table = [0u64; 256];
     fill(nodes, leaves, &mut table);
     play(
-        nodes, gain, &table, leaves, repeats, root, active, events, answers, place,
+        nodes,
+        gain,
+        &table,
+        leaves,
+        repeats,
+        root,
+        active,
+        events,
+        answers,
+        place,
     )
 }
 

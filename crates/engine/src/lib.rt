@@ -5,7 +5,7 @@ pub use feed::Ran;
 pub use feed::run;
 ghost use mathlib.Core.Path.{_≡_};
 ghost use lib.ListN.{length};
-ghost use Rattle.engine.specs.History.{ByTheBook};
+ghost use Rattle.engine.specs.History.{Call.opening, Call.stepping, Back.numbered, Back.replied, ByTheBook};
 ghost use Rattle.engine.specs.Cost.{WithinRule};
 ghost use Rattle.engine.specs.Mirror.Desk.{emptyDesk, openedOf, narrowed, onward, steppedOf};
 use par::Answer;
@@ -180,22 +180,24 @@ pub fn stepped(d: Desk, event: u8) -> Moved
     Moved { desk: next, reply }
 }
 
-// Opens a rule on a desk, fresh, also where one is open. The number is that of the file, then 8; refused, the desk is as it was.
+// Opens a rule on a desk, fresh, also where one is open. The number is that of the file, then 8; refused, the desk is as it was. On a desk made empty and
+// changed by openings and steps alone, what then remains is the rule of the file.
 pub fn open(d: &mut Desk, rule: &[u8]) -> u8
     ensures { λ r. ⌜ (r ≡ openedOf (now (d .entry)) (now (rule .entry)) .number)
-        × (now (d .exit) ≡ openedOf (now (d .entry)) (now (rule .entry)) .desk) ⌝ }
+        × (now (d .exit) ≡ openedOf (now (d .entry)) (now (rule .entry)) .desk)
+        × ByTheBook (now (d .entry)) (opening (now (rule .entry))) (numbered r) (now (d .exit)) ⌝ }
 {
     let s = opened(*d, rule);
     *d = s.desk;
     s.number
 }
 
-// Moves an open desk on by one event. 15 where no rule is open: then the desk is as it was. Whatever openings and steps went before, the reply is
-// what the figures give for the rule that was accepted last after the events since, and it has at most as many lines as that rule has nodes.
+// Moves an open desk on by one event. 15 where no rule is open: then the desk is as it was. On a desk made empty, whatever openings and steps went
+// before, reply and remainder are what the figures give for the rule accepted last after the events since, in at most as many lines as it has nodes.
 pub fn step(d: &mut Desk, event: u8) -> Reply
     ensures { λ r. ⌜ (r ≡ steppedOf (now (d .entry)) event .reply)
         × (now (d .exit) ≡ steppedOf (now (d .entry)) event .desk)
-        × ByTheBook (now (d .entry)) event r
+        × ByTheBook (now (d .entry)) (stepping event) (replied r) (now (d .exit))
         × WithinRule (now (d .entry)) (r .answer .lines) ⌝ }
 {
     let m = move_on(

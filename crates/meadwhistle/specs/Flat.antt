@@ -6,13 +6,14 @@ use Rattle.par.specs.Status.{statusByte}
 use Rattle.engine.specs.declared.Desk.{Desk}
 use Rattle.engine.specs.declared.Reply.{Reply}
 use Rattle.engine.specs.Mirror.Desk.{emptyDesk}
-use Rattle.engine.specs.History.{Call, BytesIn, Book.closed, desksAfter, booksAfter, bookReply}
+use Rattle.engine.specs.History.{Call, Call.stepping, BytesIn, Book.closed, desksAfter, booksAfter, bookAfter, bookReply, Remains}
 use Rattle.meadwhistle.specs.declared.FlatReply.{FlatReply}
 
 abbrev pub flatReply : Reply → FlatReply
 flatReply r = record { number = r .number; status = statusByte (r .answer .status); notices = r .answer .notices; lines = r .answer .lines }
 
--- whatever openings and steps made the desk of an empty one, the reply is the book's
-abbrev pub FlatByTheBook : Desk → ℕ → FlatReply → Type 0
-FlatByTheBook d a r =
-    (calls : List Call) → BytesIn calls → d ≡ desksAfter emptyDesk calls → r ≡ flatReply (bookReply (booksAfter closed calls) a)
+-- on every desk that openings and steps made of an empty one: the reply is the book's, and what is left is what the book says
+abbrev pub FlatByTheBook : Desk → ℕ → FlatReply → Desk → Type 0
+FlatByTheBook d a r d' =
+    (calls : List Call) → BytesIn calls → d ≡ desksAfter emptyDesk calls
+    → (r ≡ flatReply (bookReply (booksAfter closed calls) a)) × Remains d' (bookAfter (booksAfter closed calls) (stepping a))

@@ -1,6 +1,7 @@
 // What other languages call: slices cross as a pointer and a length, statuses as their byte, structs by value.
 ghost use mathlib.Core.Path.{_≡_};
 ghost use Rattle.engine.specs.Feed.{Fed};
+ghost use Rattle.engine.specs.History.{Call.opening, Back.numbered, ByTheBook};
 ghost use Rattle.engine.specs.Cost.{WithinRule};
 ghost use Rattle.engine.specs.Mirror.Desk.{emptyDesk, openedOf, steppedOf};
 ghost use Rattle.alike.specs.Verdict.{judged};
@@ -53,7 +54,8 @@ pub extern "C" fn meadwhistle_desk_empty() -> Desk
 #[no_mangle]
 pub extern "C" fn meadwhistle_desk_open(d: &mut Desk, rule: &[u8]) -> u8
     ensures { λ r. ⌜ (r ≡ openedOf (now (d .entry)) (now (rule .entry)) .number)
-        × (now (d .exit) ≡ openedOf (now (d .entry)) (now (rule .entry)) .desk) ⌝ }
+        × (now (d .exit) ≡ openedOf (now (d .entry)) (now (rule .entry)) .desk)
+        × ByTheBook (now (d .entry)) (opening (now (rule .entry))) (numbered r) (now (d .exit)) ⌝ }
 {
     engine::open(d, rule)
 }
@@ -71,13 +73,13 @@ fn flat(reply: Reply) -> FlatReply
     }
 }
 
-// Moves an open desk on by one event; refused, the desk is as it was. Whatever openings and steps went before, the reply is what the figures give for
-// the rule that was accepted last after the events since, in at most as many lines as that rule has nodes.
+// Moves an open desk on by one event; refused, the desk is as it was. On a desk made empty, whatever openings and steps went before, reply and remainder
+// are what the figures give for the rule accepted last after the events since, in at most as many lines as it has nodes.
 #[no_mangle]
 pub extern "C" fn meadwhistle_desk_step(d: &mut Desk, event: u8) -> FlatReply
     ensures { λ r. ⌜ (r ≡ flatReply (steppedOf (now (d .entry)) event .reply))
         × (now (d .exit) ≡ steppedOf (now (d .entry)) event .desk)
-        × FlatByTheBook (now (d .entry)) event r
+        × FlatByTheBook (now (d .entry)) event r (now (d .exit))
         × WithinRule (now (d .entry)) (r .lines) ⌝ }
 {
     let reply = engine::step(d, event);

@@ -1,11 +1,11 @@
--- The two tables of the code hold, at each of the nine places, what the figure's rule gives.
+-- The two tables of the code hold, at each of the nine places, what the figure's rule gives; and a status is told by its byte.
 use Prim.Native.Nat.{ℕ}
 use mathlib.Core.Path.{_≡_, refl, ap₂, _∙_}
 use mathlib.Core.List.{List, [], _∷_}
 use lib.ListN.{getD}
 use Rattle.par.specs.declared.Status.{Status}
 use Rattle.par.specs.declared.Status.the-variants.{Waiting, Success, Failure}
-use Rattle.par.specs.Status.{higher, tried, statusByte}
+use Rattle.par.specs.Status.{higher, tried, statusByte, statusOf}
 
 -- row i, column j
 abbrev pub entry : List (List Status) → ℕ → ℕ → Status
@@ -44,3 +44,11 @@ try-right Success Failure = refl
 try-right Failure Waiting = refl
 try-right Failure Success = refl
 try-right Failure Failure = refl
+
+-- ---- the byte of a status stands for it
+
+pub status-of-byte : (s : Status) → statusOf (statusByte s) ≡ s
+unfolding statusOf
+status-of-byte Waiting = refl
+status-of-byte Success = refl
+status-of-byte Failure = refl

@@ -1,5 +1,7 @@
 -- The three statuses, their order failure < waiting < success, and what the figures do with them.
 use Prim.Native.Nat.{ℕ}
+use mathlib.Core.Bool.{cond}
+use lib.Dec.{eqb}
 use Rattle.par.specs.declared.Status.{Status}
 use Rattle.par.specs.declared.Status.the-variants.{Waiting, Success, Failure}
 
@@ -42,3 +44,7 @@ abbrev pub statusByte : Status → ℕ
 statusByte Waiting = 0
 statusByte Success = 1
 statusByte Failure = 2
+
+-- the status that a byte stands for; one that stands for none counts as failure
+unfoldable pub statusOf : ℕ → Status
+statusOf b = cond (eqb b 0) Waiting (cond (eqb b 1) Success Failure)

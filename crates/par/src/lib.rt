@@ -1,7 +1,7 @@
 // PAR's statuses and answers, and the records that a file holds. What they mean stands in specs/, with the paper's figures.
 ghost use mathlib.Core.Path.{_≡_};
 ghost use Prim.Native.Nat.{_<_};
-ghost use Rattle.par.specs.Status.{opposite as opposed, higher, tried, statusByte};
+ghost use Rattle.par.specs.Status.{opposite as opposed, higher, tried, statusByte, statusOf};
 
 // A notice set, one bit for each recipient, recipient 0 the lowest.
 pub type Notices = u16;
@@ -59,6 +59,19 @@ pub fn status_byte(s: Status) -> u8
     ensures { λ r. ⌜ r ≡ statusByte s ⌝ }
 {
     place(s) as u8
+}
+
+// The status that a byte stands for; one that stands for none counts as failure.
+pub fn status_of(byte: u8) -> Status
+    ensures { λ s. ⌜ s ≡ statusOf byte ⌝ }
+{
+    if byte == 0 {
+        return Status::Waiting;
+    }
+    if byte == 1 {
+        return Status::Success;
+    }
+    Status::Failure
 }
 
 // Rows by the first part's status, columns by the second's: waiting, success, failure.

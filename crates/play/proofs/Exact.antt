@@ -1,15 +1,16 @@
--- The two words fix what is in play: no two expressions are.
+-- The two words fix what is in play: it is what `said` reads off them, so no two expressions are.
 use Prim.Native.Nat.{ℕ, zero, suc, _^_, _<_}
 use mathlib.Core.Path.{_≡_, refl, sym, ap, ap₂, _∙_}
 use mathlib.Core.Bool.{Bool, true, false}
 use mathlib.Core.List.{List}
 use native.Mathlib.Omega.{arith}
 use native.Mathlib.Numerals.{add-one}
+use borrow.Author.Tests.{ne-eqb}
 use Rattle.par.specs.Expr.{Expr}
 use Rattle.par.specs.Expr.{Expr.not as Not, Expr.either as Either}
 use Rattle.par.specs.Expr.{Expr.then as Then, Expr.repeat as Repeat, Expr.notify as Notify, Expr.try as Try}
 use Rattle.play.specs.Mirror.Masks.{hit}
-use Rattle.play.proofs.Said.{said}
+use Rattle.play.specs.Said.{said, remains}
 use Rattle.play.proofs.Plays.{Plays, Stands, Stands.goes, Stands.over}
 use Rattle.play.proofs.Plays.{Plays.silent, Plays.event, Plays.not, Plays.notify, Plays.repeat-fresh, Plays.repeat-going}
 use Rattle.play.proofs.Plays.{Plays.either-both, Plays.either-first, Plays.either-second, Plays.then-first, Plays.then-second}
@@ -63,9 +64,14 @@ module _ {F G : List ℕ} {L R : ℕ} where
   pub plays-one : {A W lo r : ℕ} {d e : Expr} → A < 2 ^ 64 → Plays F G L R A W lo r d → Plays F G L R A W lo r e → d ≡ e
   plays-one {r = r} s m n = sym (plays-said (suc r) m (omega arith) s) ∙ plays-said (suc r) n (omega arith) s
 
--- nor are two of a whole rule
+-- ---- a whole rule
+
+pub stands-said : {F G : List ℕ} {L R root A W : ℕ} {e : Expr} → root < 64 → Stands F G L R root A W e → remains F G root A W ≡ e
+unfolding remains
+stands-said {root = root} {A = A} few (goes m o) =
+    rw (ne-eqb A 0 (λ z. some-in m (clear-none z))) (plays-said (suc root) m (omega arith) (only-small few o))
+stands-said few (over z) = rw z refl
+
+-- so no two expressions stand there
 pub stands-one : {F G : List ℕ} {L R root A W : ℕ} {d e : Expr} → root < 64 → Stands F G L R root A W d → Stands F G L R root A W e → d ≡ e
-stands-one few (goes m o) (goes n u) = plays-one (only-small few o) m n
-stands-one few (goes m o) (over z) = absurd (some-in m (clear-none z))
-stands-one few (over z) (goes n u) = absurd (some-in n (clear-none z))
-stands-one few (over z) (over y) = refl
+stands-one few m n = sym (stands-said few m) ∙ stands-said few n

@@ -8,7 +8,7 @@ use Rattle.par.specs.declared.Status.{Status}
 use Rattle.par.specs.declared.Status.the-variants.{Waiting, Success, Failure}
 use Rattle.play.specs.declared.Moved.{Moved}
 use Rattle.play.specs.declared.ways.Route.{Route}
-use Rattle.play.specs.declared.ways.Route.the-variants.{Silent, Event, One, First, Second, Both, Left, Right}
+use Rattle.play.specs.declared.ways.Route.the-variants.{Silent, One, First, Second, Both, Left, Right}
 use Rattle.play.specs.Mirror.Masks.{clear}
 use Rattle.play.specs.Mirror.Nodes.{kindAt, firstAt, gainAt}
 use Rattle.play.specs.Mirror.Down.{Words, Made, routeOf, oneEnd, tryCounted, bothCounted, bothEnd, taken, down}
@@ -32,7 +32,6 @@ Few go = (lo r : ℕ) (st : Words) → st .counted < 2 ^ 64 → go lo r st .afte
 taken-few : (go : ℕ → ℕ → Words → Made) → Few go → (k : Route) (kind g x : ℕ) → Few (λ lo r st. taken go k kind g lo x r st)
 unfolding oneEnd bothEnd
 taken-few go i Silent kind g x lo r st h = h
-taken-few go i Event kind g x lo r st h = h
 taken-few go i One kind g x lo r st h = i lo x st h
 taken-few go i First kind g x lo r st h = i lo x st h
 taken-few go i Second kind g x lo r st h = i (x + 1) (r - 1) st h
@@ -45,7 +44,9 @@ module _ (F G : List ℕ) where
   unfolding down
   down-few T zero lo r st h = h
   down-few T (suc f) lo r st h =
-      taken-few (down F G T f) (down-few T f) (routeOf (kindAt F r) (st .active) T lo (firstAt F r) r) (kindAt F r) (gainAt G r) (firstAt F r) lo r st h
+      by-test (λ (m : Made). m .after .counted < 2 ^ 64) (eqb lo r) (λ _. h)
+      (λ _. taken-few (down F G T f) (down-few T f) (routeOf (kindAt F r) (st .active) T lo (firstAt F r) r) (kindAt F r) (gainAt G r)
+      (firstAt F r) lo r st h)
 
   pub lines-few : (L R root a A : ℕ) → A < 2 ^ 64 → stepped F G L R root a A .lines ≤ 64
   unfolding stepped steppedBy movedBy

@@ -6,12 +6,12 @@ use mathlib.Core.List.{List}
 use native.Mathlib.Numerals.{add-one}
 use native.Mathlib.Omega.{arith}
 use lib.Dec.{eqb, ltb}
-use borrow.Author.Tests.{le-ltb, le-leb, lt-leb}
+use borrow.Author.Tests.{le-ltb, le-leb, lt-leb, eq-eqb, ne-eqb}
 use Rattle.play.specs.declared.ways.Route.{Route}
-use Rattle.play.specs.declared.ways.Route.the-variants.{Silent, Event, One as OneWay}
+use Rattle.play.specs.declared.ways.Route.the-variants.{Silent, One as OneWay}
 use Rattle.play.specs.Mirror.Masks.{bit, hit, Clear}
 use Rattle.play.specs.Mirror.Nodes.{kindAt, firstAt, gainAt}
-use Rattle.play.specs.Mirror.Down.{Words, pairRoute, routeOf, taken, down}
+use Rattle.play.specs.Mirror.Down.{Words, pairRoute, routeOf, taken, came, down}
 use Rattle.play.proofs.Plays.{One, Two}
 use Rattle.play.proofs.Digits.{and-false}
 use Rattle.play.proofs.Spans.{hit-false, hit-clear}
@@ -64,28 +64,31 @@ module _ {F : List ℕ} {L R T a A lo x y kind : ℕ} {st : Words} (small : T < 
 -- of one whose parts stand in their places, where `pair` is the way of two parts
 abbrev pub wayOf : ℕ → Route → Route
 wayOf kind pair =
-    cond (eqb kind 2) Event
-    (cond (ltb kind 3) Silent
-    (cond (ltb 8 kind) Silent (cond (eqb kind 3) OneWay (cond (eqb kind 6) OneWay (cond (eqb kind 7) OneWay pair)))))
+    cond (ltb kind 3) Silent
+    (cond (ltb 8 kind) Silent (cond (eqb kind 3) OneWay (cond (eqb kind 6) OneWay (cond (eqb kind 7) OneWay pair))))
 
 module _ (F G : List ℕ) (T f lo : ℕ) (st : Words) where
-  pub took : (r : ℕ) {kind x : ℕ} {k : Route} → kindAt F r ≡ kind → firstAt F r ≡ x → routeOf kind (st .active) T lo x r ≡ k
+  pub took-event : down F G T (suc f) lo lo st ≡ came lo st
+  unfolding down
+  took-event = rw (eq-eqb lo lo refl) refl
+
+  took : (r : ℕ) {kind x : ℕ} {k : Route} → lo < r → kindAt F r ≡ kind → firstAt F r ≡ x → routeOf kind (st .active) T lo x r ≡ k
       → down F G T (suc f) lo r st ≡ taken (down F G T f) k kind (gainAt G r) lo x r st
   unfolding down
-  took r i j l = rw (i, j, l) refl
+  took r h i j l = rw (ne-eqb lo r (λ q. omega arith), i, j, l) refl
 
   pub took-one : {L kind x : ℕ} → One F L kind lo x
       → down F G T (suc f) lo (suc x) st ≡ taken (down F G T f) (wayOf kind Silent) kind (gainAt G (suc x)) lo x (suc x) st
   unfolding routeOf
   took-one {kind = kind} {x = x} own =
-      took (suc x) {k = wayOf kind Silent} (own .kind-is) (own .first-is)
+      took (suc x) {k = wayOf kind Silent} (omega arith) (own .kind-is) (own .first-is)
       (rw (le-ltb x lo (own .within), lt-leb (suc x) x (omega arith), add-one x, le-leb (suc x) (suc x) (omega arith)) refl)
 
   pub took-pair : {L kind x y : ℕ} {b p q : Bool} → Two F L kind lo x y → bit (st .active) (suc y) ≡ b → hit T lo x ≡ p → hit T (suc x) y ≡ q
       → down F G T (suc f) lo (suc y) st ≡ taken (down F G T f) (wayOf kind (pairRoute kind b p q)) kind (gainAt G (suc y)) lo x (suc y) st
   unfolding routeOf
   took-pair {kind = kind} {x = x} {y = y} {b = b} {p = p} {q = q} own i j l =
-      took (suc y) {k = wayOf kind (pairRoute kind b p q)} (own .kind-is) (own .first-is)
+      took (suc y) {k = wayOf kind (pairRoute kind b p q)} (omega arith) (own .kind-is) (own .first-is)
       (rw (
         le-ltb x lo (own .within),
         lt-leb (suc y) x (omega arith),

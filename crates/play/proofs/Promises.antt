@@ -5,6 +5,7 @@ use mathlib.Core.Bool.{true}
 use mathlib.Core.List.{List}
 use Rattle.par.specs.declared.Status.the-variants.{Waiting}
 use Rattle.par.specs.Expr.{Expr}
+use Rattle.play.specs.Said.{remains}
 use Rattle.play.specs.Mirror.Masks.{both, hit, Clear}
 use Rattle.play.specs.Mirror.Down.{Words, made, down}
 use Rattle.play.specs.Mirror.Step.{comes, stepped}
@@ -28,6 +29,9 @@ right a few m = Whole.right a few m
 
 pub plays-one : {F G : List ℕ} {L R A W lo r : ℕ} {d e : Expr} → A < 2 ^ 64 → Plays F G L R A W lo r d → Plays F G L R A W lo r e → d ≡ e
 plays-one = Exact.plays-one
+
+pub stands-said : {F G : List ℕ} {L R root A W : ℕ} {e : Expr} → root < 64 → Stands F G L R root A W e → remains F G root A W ≡ e
+stands-said = Exact.stands-said
 
 pub stands-one : {F G : List ℕ} {L R root A W : ℕ} {d e : Expr} → root < 64 → Stands F G L R root A W d → Stands F G L R root A W e → d ≡ e
 stands-one = Exact.stands-one

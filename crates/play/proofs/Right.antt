@@ -13,7 +13,7 @@ use Rattle.play.specs.declared.ways.Route.{Route}
 use Rattle.play.specs.declared.ways.Route.the-variants.{Both, Left, Right}
 use Rattle.play.specs.Mirror.Masks.{bit, hit, Clear}
 use Rattle.play.specs.Mirror.Nodes.{firstAt, gainAt}
-use Rattle.play.specs.Mirror.Down.{Words, Made, made, pairRoute, routeOf, oneStatus, oneActive, oneGoing, oneSent, oneEnd}
+use Rattle.play.specs.Mirror.Down.{Words, Made, made, pairRoute, oneStatus, oneActive, oneGoing, oneSent, oneEnd}
 use Rattle.play.specs.Mirror.Down.{bothStatus, leftActive, bothActive, tryCounted, bothCounted, bothEnd, down}
 use Rattle.play.proofs.Plays.{Two, Plays}
 use Rattle.play.proofs.Plays.{Plays.silent, Plays.event, Plays.not, Plays.notify, Plays.repeat-fresh, Plays.repeat-going}
@@ -26,7 +26,7 @@ use Rattle.play.proofs.Rests.{sub-one}
 use Rattle.play.proofs.Did.{Ready, Did, ready-within, ready-behind}
 use Rattle.play.proofs.DidOne.{silent-did, event-idle, event-did, not-did, notify-did, again-did, repeat-did}
 use Rattle.play.proofs.DidTwo.{then-did, first-did, second-did, either-did, try-did}
-use Rattle.play.proofs.Held.{quiet-node, quiet-part, unclear, held-one, held-first, held-second, wayOf, took, took-one, took-pair}
+use Rattle.play.proofs.Held.{quiet-node, quiet-part, unclear, held-one, held-first, held-second, wayOf, took-event, took-one, took-pair}
 
 -- an event in play is met if it is the one that came
 event-met : {F : List ℕ} {L R T a A r : ℕ} {st : Words} (b : ℕ) → Ready F L R T a A r r st → bit L r ≡ true → firstAt F r ≡ b → bit A r ≡ true
@@ -98,11 +98,11 @@ both-ways {F} {G} {L} {R} {a} T f {lo = lo} {x = x} {y = y} {u = u} {st = st} at
 module _ {F G : List ℕ} {L R T a : ℕ} where
   pub does : {A W lo r : ℕ} {e : Expr} {st : Words} (f : ℕ) → Plays F G L R A W lo r e → r < f → T < 2 ^ 64 → Ready F L R T a A lo r st
       → hit T lo r ≡ true → Did F G L R a lo r e st (down F G T f lo r st)
-  unfolding routeOf pairRoute
+  unfolding pairRoute
   does zero m u small b h = absurd (omega arith)
   does (suc f) (silent at l p) u small b h = absurd (unclear small h (quiet-node b (omega arith) l))
   does {r = r} {st = st} (suc f) (event {b = z} at l i p) u small b h =
-      rw (took F G T f r st r (at .kind-is) i refl) (event-did b p at (event-met z b l i p ∙ here (bit T r) refl))
+      rw (took-event F G T f r st) (event-did b p at (event-met z b l i p ∙ here (bit T r) refl))
     where
       here : (t : Bool) → bit T r ≡ t → t ≡ true
       here true j = refl

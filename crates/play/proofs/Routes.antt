@@ -5,13 +5,12 @@ use mathlib.Core.List.{List}
 use native.Mathlib.Omega.{arith}
 use lib.Dec.{eqb, leb, ltb}
 use lib.ListN.{getD}
-use borrow.Author.Tests.{ltb-false, leb-false}
-use Rattle.par.specs.declared.Status.{Status}
+use borrow.Author.Tests.{ltb-false, leb-false, eq-eqb, ne-eqb}
 use Rattle.play.specs.declared.ways.Route.{Route}
-use Rattle.play.specs.declared.ways.Route.the-variants.{Silent, Event, One, First, Second, Both, Left, Right}
+use Rattle.play.specs.declared.ways.Route.the-variants.{Silent, One, First, Second, Both, Left, Right}
 use Rattle.play.specs.Mirror.Masks.{bit, hit}
 use Rattle.play.specs.Mirror.Nodes.{kindAt, firstAt, gainAt}
-use Rattle.play.specs.Mirror.Down.{wordsIn, pairRoute, routeOf, taken, down, Makes, Downs}
+use Rattle.play.specs.Mirror.Down.{wordsIn, metIn, pairRoute, routeOf, taken, came, down, Makes, Downs}
 use Rattle.play.proofs.Tests.{by-test}
 
 -- the first part in lo .. r - 1
@@ -26,7 +25,6 @@ pub record InBoth (lo x r : ℕ) : Type 0 where
 
 abbrev pub Placed : ℕ → ℕ → ℕ → Route → Type 0
 Placed lo x r Silent = Unit {0}
-Placed lo x r Event = Unit {0}
 Placed lo x r One = InFirst lo x r
 Placed lo x r First = InBoth lo x r
 Placed lo x r Second = InBoth lo x r
@@ -39,7 +37,6 @@ module _ (kind A T lo x r : ℕ) where
   unfolding routeOf pairRoute
   placed =
       let Q = Placed lo x r in
-      by-test Q (eqb kind 2) (λ _. tt) λ _.
       by-test Q (ltb kind 3) (λ _. tt) λ _.
       by-test Q (ltb 8 kind) (λ _. tt) λ _.
       by-test Q (ltb x lo) (λ _. tt) λ within.
@@ -58,12 +55,19 @@ module _ (kind A T lo x r : ℕ) where
   pub parts-placed : {k : Route} → routeOf kind A T lo x r ≡ k → Placed lo x r k
   parts-placed e = rw e at placed
 
--- one event by the route, on the words in a list; x is the first part
-module _ (F G : List ℕ) (T lo r : ℕ) (l : List ℕ) {x : ℕ} {k : Route} (i : x ≡ getD F r 0 / 256)
-    (e : routeOf (getD F r 0 % 256) (getD l 0 0) T lo x r ≡ k) where
-  pub down-done : (s : Status) (l′ : List ℕ)
-      → ((f : ℕ) → r ≤ f → Makes (taken (down F G T f) k (getD F r 0 % 256) (getD G r 0) lo x r (wordsIn l)) s l′)
-      → Downs F G T lo r l s l′
+-- one event on the words in a list
+module _ (F G : List ℕ) (lo r : ℕ) (l : List ℕ) where
+  -- where r is its only node
+  pub down-event : lo ≡ r → {s : ℕ} {l′ : List ℕ} → Makes (came r (wordsIn l)) (metIn l) s l′ → Downs F G lo r l s l′
+  unfolding down
+  down-event i g zero h = absurd (omega arith)
+  down-event i g (suc f) h = rw (eq-eqb lo r i) g
+
+  -- by the route, where r has a part; x is the first
+  pub down-done : {x : ℕ} {k : Route} → lo < r → x ≡ getD F r 0 / 256 → routeOf (getD F r 0 % 256) (getD l 0 0) (metIn l) lo x r ≡ k
+      → (s : ℕ) (l′ : List ℕ)
+      → ((f : ℕ) → r ≤ f → Makes (taken (down F G (metIn l) f) k (getD F r 0 % 256) (getD G r 0) lo x r (wordsIn l)) (metIn l) s l′)
+      → Downs F G lo r l s l′
   unfolding down kindAt firstAt gainAt
-  down-done s l′ g zero h = absurd (omega arith)
-  down-done s l′ g (suc f) h = rw (← i, e) (g f (omega arith))
+  down-done h i e s l′ g zero u = absurd (omega arith)
+  down-done h i e s l′ g (suc f) u = rw (ne-eqb lo r (λ q. omega arith), ← i, e) (g f (omega arith))

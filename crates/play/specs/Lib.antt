@@ -1,3 +1,4 @@
--- One event on a rule's nodes. All of it is the mirror of the machine: how the code computes, on any nodes whatever. What it means stands in proofs/Plays.antt,
--- and proofs/Promises.antt ties the two.
+-- One event on a rule's nodes. What a reader must believe: Said, which expression two words stand for. Mirror has what the code computes, on any nodes
+-- whatever; proofs/Promises.antt ties the two.
+pub mod Said
 pub mod Mirror

@@ -99,8 +99,8 @@ pub fn went(
     requires { ⌜ (root < 64) × (length (now nodes) ≡ 64) × (length (now gain) ≡ 64) ⌝ }
     ensures { λ m. ⌜ m ≡ movedBy (now (nodes .entry)) (now (gain .entry)) repeats root met active ⌝ }
 {
-    let mut words = [active, active & repeats, active, 0];
-    let status = moves::down(nodes, gain, met, &mut words, 0, root);
+    let mut words = [active, active & repeats, active, 0, met];
+    let status = par::status_of(moves::part(nodes, gain, &mut words, 0, root));
     let lines = count(words[2]);
     Moved {
         status,

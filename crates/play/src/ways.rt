@@ -5,11 +5,10 @@ ghost use Rattle.play.specs.Mirror.Masks.{bit, hit};
 ghost use Rattle.play.specs.Mirror.Down.{pairRoute, routeOf};
 use crate::masks;
 
-// How a node takes an event: as silent, as an event that came, by its first part inside itself, by the one part that is left of it, or by those of
+// How a node with parts takes an event: as silent, by its first part inside itself, by the one part that is left of it, or by those of
 // its two parts that hold an event that came.
 pub enum Route {
     Silent,
-    Event,
     One,
     First,
     Second,
@@ -46,9 +45,6 @@ pub fn route_of(kind: u16, active: u64, met: u64, lo: usize, x: usize, r: usize)
     requires { ⌜ (lo ≤ r) × (r < 64) ⌝ }
     ensures { λ t. ⌜ t ≡ routeOf kind active met lo x r ⌝ }
 {
-    if kind == 2 {
-        return Route::Event;
-    }
     if kind < 3 {
         return Route::Silent;
     }

@@ -5,16 +5,15 @@ use mathlib.Core.List.{List, [], _∷_, _++_}
 use native.Mathlib.Omega.{arith}
 use native.Mathlib.Nat.{mod-add-div}
 use lib.ListN.{length, getD, drop, length-append}
-use Rattle.par.specs.declared.Status.{Status}
-use Rattle.par.specs.declared.Status.the-variants.{Waiting, Success, Failure}
 use Rattle.par.specs.declared.Answer.{Answer}
 use Rattle.par.specs.Expr.{Expr}
-use Rattle.par.specs.Status.{statusByte}
+use Rattle.par.specs.Status.{statusOf}
 use Rattle.par.specs.Step.{remainder}
 use Rattle.par.specs.Feed.{answers}
+use Rattle.par.proofs.Tables.{status-of-byte}
 use Rattle.engine.specs.Feed.{answerBytes}
 use Rattle.printout.specs.Text.{line, lines}
-use Rattle.printout.specs.Mirror.Lines.{statusOf, linesOf}
+use Rattle.printout.specs.Mirror.Lines.{linesOf}
 use Rattle.printout.proofs.Words.{line-long}
 
 -- ---- the lines of answers
@@ -43,12 +42,6 @@ pub answer-bytes-long : (rs : List Answer) → length (answerBytes rs) ≡ 7 * l
 unfolding answerBytes
 answer-bytes-long [] = refl
 answer-bytes-long (r ∷ rs) = omega (arith, answer-bytes-long rs)
-
-pub status-of-byte : (s : Status) → statusOf (statusByte s) ≡ s
-unfolding statusOf
-status-of-byte Waiting = refl
-status-of-byte Success = refl
-status-of-byte Failure = refl
 
 -- as the code reads them: bytes 4 and 5 of a record are the notice set, byte 6 the status
 unfoldable pub linesIn : List ℕ → List ℕ → List ℕ

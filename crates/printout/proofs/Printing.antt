@@ -8,9 +8,9 @@ use lib.ListN.{length, getD, take, drop, length-append, drop-of-length-le}
 use lib.Seq.{sets, sets-eq, length-sets, length-take-le, take-at, take-all, drop-cons, drop-drop, getD-drop}
 use borrow.Rule.Slice.PartMut.{putMid}
 use Rattle.par.specs.declared.Status.{Status}
+use Rattle.par.specs.Status.{statusOf}
 use Rattle.engine.proofs.Buffers.{put-back}
 use Rattle.printout.specs.Text.{line}
-use Rattle.printout.specs.Mirror.Lines.{statusOf}
 use Rattle.printout.proofs.Words.{line-long}
 use Rattle.printout.proofs.Outputs.{drop-sets}
 use Rattle.printout.proofs.Lines.{linesIn}

@@ -25,7 +25,7 @@ fn put_lines(events: &[u8], output: &mut [u8])
     while i < n {
         let from = 9 * n + 7 * i;
         let notices = text::notices_of(output[from + 4], output[from + 5]);
-        let status = text::status_of(output[from + 6]);
+        let status = par::status_of(output[from + 6]);
         let at = 16 * i;
         text::put_line(&mut output[at..], events[i], notices, status);
         i += 1;
@@ -58,7 +58,15 @@ fn put_rule<'a>(
     text::put_decimal(output, 5, size);
     let place = head + 9 * events.len();
     engine::feed::feed(
-        nodes, gain, leaves, repeats, root, fresh, events, output, place,
+        nodes,
+        gain,
+        leaves,
+        repeats,
+        root,
+        fresh,
+        events,
+        output,
+        place,
     );
     put_lines(events, &mut output[head..n]);
     n

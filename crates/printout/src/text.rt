@@ -5,7 +5,6 @@ ghost use lib.ListN.{length};
 ghost use lib.Seq.{sets};
 ghost use Rattle.printout.specs.Text.{hexDigit, decimalLength, decimal, statusWord, line, refusedText};
 ghost use Rattle.printout.specs.Printed.{PrintedAs};
-ghost use Rattle.printout.specs.Mirror.Lines.{statusOf};
 use par::Notices;
 use par::Status;
 
@@ -62,19 +61,6 @@ pub fn notices_of(low: u8, high: u8) -> Notices
     ensures { λ n. ⌜ n ≡ low + 256 * high ⌝ }
 {
     low as Notices + 256 * (high as Notices)
-}
-
-// Its status: 0 is waiting, 1 success, 2 failure.
-pub fn status_of(byte: u8) -> Status
-    ensures { λ s. ⌜ s ≡ statusOf byte ⌝ }
-{
-    if byte == 0 {
-        return Status::Waiting;
-    }
-    if byte == 1 {
-        return Status::Success;
-    }
-    Status::Failure
 }
 
 // Writes the word of a status in its place in a line.

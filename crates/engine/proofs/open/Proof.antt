@@ -57,6 +57,7 @@ use Rattle.engine.proofs.opened.Symbol as work-def
 use Rattle.engine.proofs.opened.Symbol.{name as #engine·opened}
 use Rattle.engine.proofs.opened.Met as work-thm
 use Rattle.engine.proofs.open.Key.{name as #engine·open}
+use Rattle.engine.proofs.Histories.{open-by-the-book}
 use Rattle.engine.proofs.open as f
 use Rattle.engine.proofs.open.Statement as stated
 use Rattle.engine.proofs.open.Code as code
@@ -103,7 +104,7 @@ module _ {M : Type 1} (𝓤 : URA M) (H : Heap 𝓤) (A : Atoms 𝓤) (W : Given
       qed W (‵ (fobs γ (T.the-row .coded .code (r .desk))) ∷ ‵ (fbor κ (Body (mem T.the-row) b o γ)) ∷ ‵ (flft κ q) ∷ (‵ (flft κ′ q′) ⊛ ‵ ftrue) ∷ ‵ Own ∷ []) ∵
       suffices ! _ (ends-at 𝓤 H A f.ended stayed (f.clauses 𝓤 H A at-mem run) W (((κ, (κ′, tt)), (q, (q′, tt)), tt, x, at), tt) (vint w8 (r .number))
       (r .number) (r .desk, (tt, tt)) (tt, (tt, tt))) $
-      says ! (ap (λ (m : Begun). m .number) e, ap (λ (m : Begun). m .desk) e) $ move ! (2 ∷ 3 ∷ []) $ join ! $
+      says ! (ap (λ (m : Begun). m .number) e, ap (λ (m : Begun). m .desk) e, rw e (open-by-the-book h (s .now))) $ move ! (2 ∷ 3 ∷ []) $ join ! $
       frame ! $ feqI ! (List Val) (vptr b o ∷ []) (vptr b o ∷ []) refl $ fjoin3 ! $ nothing ! $ move ! (2 ∷ 0 ∷ []) $ fjoin ! $ move ! (1 ∷ 0 ∷ []) $ fjoin ! $
       owned ! u8 (Is u8) (uint-makes 𝓤 H A W w8) (r .number) _ (refl, fits) $ move ! (1 ∷ 0 ∷ []) $ done !
 

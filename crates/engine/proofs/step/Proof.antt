@@ -54,7 +54,7 @@ use Rattle.engine.proofs.Reply as P
 use Rattle.engine.proofs.Reply.Laws as P′
 use Rattle.engine.proofs.Onward as O
 use Rattle.engine.proofs.Onward.Laws as O′
-use Rattle.engine.proofs.Histories.{by-the-book}
+use Rattle.engine.proofs.Histories.{step-by-the-book}
 use Rattle.engine.proofs.Costs.{step-within}
 use Rattle.engine.proofs.DeskParts.{deskV, Facts, facts, put-is}
 use Rattle.engine.proofs.DeskParts as parts
@@ -118,7 +118,7 @@ module _ {M : Type 1} (𝓤 : URA M) (H : Heap 𝓤) (A : Atoms 𝓤) (W : Given
       suffices ! _
       (ends-at 𝓤 H A f.ended stayed (f.clauses 𝓤 H A at-mem run) W (((κ, tt), (q, tt), tt, x, at), tt) (replyV (s .reply)) (s .reply) (s .desk, (tt, tt))
       (tt, (tt, tt))) $
-      says ! (rw e, rw e, rw e (by-the-book h n), rw e (step-within h n)) $ nothing ! $ move ! (3 ∷ 0 ∷ []) $ join ! $
+      says ! (rw e, rw e, rw e (step-by-the-book h n), rw e (step-within h n)) $ nothing ! $ move ! (3 ∷ 0 ∷ []) $ join ! $
       frame ! $ feqI ! (List Val) (vptr b o ∷ []) (vptr b o ∷ []) refl $ fjoin3 ! $ nothing ! $
       owned ! u8 (Is u8) (uint-makes 𝓤 H A W w8) n _ (refl, fits) $ fjoin ! $ move ! (1 ∷ 0 ∷ []) $ fjoin ! $
       owned ! P.the-row (Is P.the-row) (LL.makes P.the-type P′.the-plain 𝓤 H A) (s .reply) _ is $ move ! (1 ∷ 0 ∷ []) $ done !

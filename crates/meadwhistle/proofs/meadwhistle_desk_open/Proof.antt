@@ -39,6 +39,7 @@ use denote.Triple.Table.{entered, cited}
 use denote.Triple.Walked.{says, Stays, gave-ref, stay-none-slice, walkOf, AllGo, goes-none-slice, goes-gave-ref, Walks, ends-at, walked, walk-meets}
 use denote.Exit.{yes}
 use Rattle.engine.specs.Mirror.Desk.{openedOf}
+use Rattle.engine.specs.History.{Call.opening, Back.numbered, ByTheBook}
 use Rattle.engine.specs.declared.Desk.{Desk}
 use Rattle.engine.proofs.Desk as T
 use Rattle.engine.proofs.open as work
@@ -83,7 +84,7 @@ module _ {M : Type 1} (𝓤 : URA M) (H : Heap 𝓤) (A : Atoms 𝓤) (W : Given
 
   -- the number and the last desk are those that `open` must give
   abbrev Opened : ℕ → Desk → Type 0
-  Opened n d = (n ≡ openedOf h (s .now) .number) × (d ≡ openedOf h (s .now) .desk)
+  Opened n d = (n ≡ openedOf h (s .now) .number) × (d ≡ openedOf h (s .now) .desk) × ByTheBook h (opening (s .now)) (numbered n) d
 
   exits : (n : ℕ) (d : Desk) (v : Val) → Is u8 n (v ∷ []) → Opened n d
       → ent 𝓤 (⋆ 𝓤 H A (tokens ∷ ‵ (fres γ (T.the-row .coded .code d)) ∷ ‵ Own ∷ [])) (Post v)

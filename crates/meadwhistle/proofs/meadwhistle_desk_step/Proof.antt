@@ -37,13 +37,13 @@ use denote.Triple.Table.{entered, cited}
 use denote.Triple.Walked.{says, Stays, gave-ref, stay-none, walkOf, AllGo, goes-none, goes-gave-ref, Walks, ends-at, walked, walk-meets}
 use denote.Exit.{yes}
 use Rattle.engine.specs.Mirror.Desk.{steppedOf}
-use Rattle.engine.specs.History.{ByTheBook}
+use Rattle.engine.specs.History.{Call.stepping, Back, Back.numbered, Back.replied, ByTheBook}
 use Rattle.engine.specs.Cost.{WithinRule}
 use Rattle.engine.specs.declared.Desk.{Desk}
 use Rattle.engine.specs.declared.Reply.{Reply}
-use Rattle.meadwhistle.specs.Flat.{flatReply}
+use Rattle.meadwhistle.specs.Flat.{flatReply, FlatByTheBook}
 use Rattle.meadwhistle.specs.declared.FlatReply.{FlatReply}
-use Rattle.engine.proofs.Promises.{by-the-book}
+use Rattle.engine.proofs.Promises.{step-by-the-book}
 use Rattle.engine.proofs.Desk as T
 use Rattle.engine.proofs.Reply as P
 use Rattle.engine.proofs.Reply.Laws as P′
@@ -61,6 +61,15 @@ use Rattle.meadwhistle.proofs.meadwhistle_desk_step.Key.{name as #meadw
 use Rattle.meadwhistle.proofs.meadwhistle_desk_step as f
 use Rattle.meadwhistle.proofs.meadwhistle_desk_step.Statement as stated
 use Rattle.meadwhistle.proofs.meadwhistle_desk_step.Code as code
+
+-- what came back is one reply
+replyIn : Reply → Back → Reply
+replyIn r (numbered k) = r
+replyIn r (replied t) = t
+
+reply-inj : {r t : Reply} → replied r ≡ replied t → r ≡ t
+unfolding replyIn
+reply-inj {r} e = ap (replyIn r) e
 
 abbrev Arg : Type 0
 Arg = RefT Desk × (ℕ × Unit {0})
@@ -91,18 +100,22 @@ module _ {M : Type 1} (𝓤 : URA M) (H : Heap 𝓤) (A : Atoms 𝓤) (W : Given
   abbrev Post : Val → SProp 𝓤
   Post = walkOf 𝓤 H A f.ended stayed (f.clauses 𝓤 H A mem run) .post (((κ, tt), (q, tt), tt, x, at), tt)
 
+  -- the book's reply, in one struct
+  book : {d : Desk} {u : FlatReply} → u ≡ flatReply (steppedOf h n .reply) → d ≡ steppedOf h n .desk → FlatByTheBook h n u d
+  book e e′ calls bytes made = let said = step-by-the-book h n calls bytes made in (e ∙ ap flatReply (reply-inj (said .0)), rw e′ (said .1))
+
   exits : (d : Desk) (u : FlatReply) (v : Val) → Is R.the-row u (v ∷ []) → u ≡ flatReply (steppedOf h n .reply) → d ≡ steppedOf h n .desk
       → WithinRule h (u .lines) → ent 𝓤 (⋆ 𝓤 H A ((‵ (flft κ q) ⊛ ‵ ftrue) ∷ ‵ (fres γ (T.the-row .coded .code d)) ∷ [])) (Post v)
   exits d u v is e e′ few =
       qed W ((‵ (flft κ q) ⊛ ‵ ftrue) ∷ ‵ (fres γ (T.the-row .coded .code d)) ∷ []) ∵
       suffices ! _
       (ends-at 𝓤 H A f.ended stayed (f.clauses 𝓤 H A mem run) W (((κ, tt), (q, tt), tt, x, at), tt) v u (d, (tt, tt)) (tt, (tt, tt))) $
-      says ! (e, e′, (λ calls bytes made. e ∙ ap flatReply (by-the-book h n calls bytes made)), few) $ frame ! $ nothing ! $ owned ! u8 (Is u8) (uint-makes 𝓤 H A W w8) n _ (refl, fits) $ fjoin ! $ move ! (1 ∷ 0 ∷ []) $ fjoin ! $
+      says ! (e, e′, book e e′, few) $ frame ! $ nothing ! $ owned ! u8 (Is u8) (uint-makes 𝓤 H A W w8) n _ (refl, fits) $ fjoin ! $ move ! (1 ∷ 0 ∷ []) $ fjoin ! $
       owned ! R.the-row (Is R.the-row) (LL.makes R.the-type R′.the-plain 𝓤 H A) u _ is $ move ! (1 ∷ 0 ∷ []) $ done !
 
   -- what `step` says of its reply and of the desk's last value
   abbrev Said : Reply → Desk → Type 0
-  Said r d = (r ≡ steppedOf h n .reply) × (d ≡ steppedOf h n .desk) × ByTheBook h n r × WithinRule h (r .answer .lines)
+  Said r d = (r ≡ steppedOf h n .reply) × (d ≡ steppedOf h n .desk) × ByTheBook h (stepping n) (replied r) d × WithinRule h (r .answer .lines)
 
   -- the call of `step`: it binds what this function binds
   abbrev to-step : Step 𝓤 H A mem run .Ghost

@@ -7,10 +7,10 @@ use lib.ListN.{getD}
 use lib.Dec.{eqb, leb, ltb}
 use Rattle.par.specs.declared.Status.{Status}
 use Rattle.par.specs.declared.Status.the-variants.{Waiting, Success, Failure}
-use Rattle.par.specs.Status.{opposite, higher, lower, tried}
+use Rattle.par.specs.Status.{opposite, higher, lower, tried, statusByte}
 use Rattle.par.specs.Expr.{join}
 use Rattle.play.specs.declared.ways.Route.{Route}
-use Rattle.play.specs.declared.ways.Route.the-variants.{Silent, Event, One, First, Second, Both, Left, Right}
+use Rattle.play.specs.declared.ways.Route.the-variants.{Silent, One, First, Second, Both, Left, Right}
 use Rattle.play.specs.Mirror.Masks.{bit, one, with, less, clear, hit}
 use Rattle.play.specs.Mirror.Nodes.{kindAt, firstAt, gainAt}
 
@@ -30,8 +30,12 @@ words A W C S = record { active = A; going = W; counted = C; sent = S }
 abbrev pub wordsIn : List ℕ → Words
 wordsIn l = words (getD l 0 0) (getD l 1 0) (getD l 2 0) (getD l 3 0)
 
-abbrev pub listOf : Words → List ℕ
-listOf st = st .active ∷ st .going ∷ st .counted ∷ st .sent ∷ []
+-- with the events in play that came behind them
+abbrev pub metIn : List ℕ → ℕ
+metIn l = getD l 4 0
+
+abbrev pub listOf : Words → ℕ → List ℕ
+listOf st T = st .active ∷ st .going ∷ st .counted ∷ st .sent ∷ T ∷ []
 
 pub record Made : Type 0 where
   pub status : Status
@@ -48,8 +52,7 @@ pairRoute kind here p q = cond here (cond (eqb kind 5) One (cond p (cond q Both 
 
 unfoldable pub routeOf : ℕ → ℕ → ℕ → ℕ → ℕ → ℕ → Route
 routeOf kind A T lo x r =
-    cond (eqb kind 2) Event
-    (cond (ltb kind 3) Silent
+    cond (ltb kind 3) Silent
     (cond (ltb 8 kind) Silent
     (cond (ltb x lo) Silent
     (cond (leb r x) Silent
@@ -57,7 +60,7 @@ routeOf kind A T lo x r =
     (cond (eqb kind 6) One
     (cond (eqb kind 7) One
     (cond (leb r (x + 1)) Silent
-    (pairRoute kind (bit A r) (hit T lo x) (hit T (x + 1) (r - 1)))))))))))
+    (pairRoute kind (bit A r) (hit T lo x) (hit T (x + 1) (r - 1))))))))))
 
 -- ---- a node with one part that steps, by its kind, that part's status and what it gains
 
@@ -127,7 +130,6 @@ bothEnd kind lo x r s m =
 
 abbrev pub taken : (ℕ → ℕ → Words → Made) → Route → ℕ → ℕ → ℕ → ℕ → ℕ → Words → Made
 taken go Silent kind g lo x r st = made Waiting st
-taken go Event kind g lo x r st = made Success (words (less (st .active) (one r)) (st .going) (st .counted) (st .sent))
 taken go One kind g lo x r st = oneEnd kind g lo r (go lo x st)
 taken go First kind g lo x r st = go lo x st
 taken go Second kind g lo x r st = go (x + 1) (r - 1) st
@@ -135,17 +137,22 @@ taken go Both kind g lo x r st = let m = go lo x st in bothEnd kind lo x r (m .s
 taken go Left kind g lo x r st = let m = go lo x st in bothEnd kind lo x r (m .status) (made Waiting (m .after))
 taken go Right kind g lo x r st = bothEnd kind lo x r Waiting (go (x + 1) (r - 1) st)
 
--- node r, whose nodes stand from lo on; the first argument is above r
+-- an event that came
+abbrev pub came : ℕ → Words → Made
+came r st = made Success (words (less (st .active) (one r)) (st .going) (st .counted) (st .sent))
+
+-- node r, whose nodes stand from lo on; where it is the only one it is an event that came. The first argument is above r
 module _ (F G : List ℕ) (T : ℕ) where
   unfoldable pub down : ℕ → ℕ → ℕ → Words → Made
   down zero lo r st = made Waiting st
   down (suc f) lo r st =
-      taken (down f) (routeOf (kindAt F r) (st .active) T lo (firstAt F r) r) (kindAt F r) (gainAt G r) lo (firstAt F r) r st
+      cond (eqb lo r) (came r st)
+      (taken (down f) (routeOf (kindAt F r) (st .active) T lo (firstAt F r) r) (kindAt F r) (gainAt G r) lo (firstAt F r) r st)
 
--- ---- what the code says of its status, and of the list that it leaves
+-- ---- what the code says: the byte of its status, and the list that it leaves
 
-abbrev pub Makes : Made → Status → List ℕ → Type 0
-Makes m s l = (s ≡ m .status) × (l ≡ listOf (m .after))
+abbrev pub Makes : Made → ℕ → ℕ → List ℕ → Type 0
+Makes m T s l = (s ≡ statusByte (m .status)) × (l ≡ listOf (m .after) T)
 
-abbrev pub Downs : List ℕ → List ℕ → ℕ → ℕ → ℕ → List ℕ → Status → List ℕ → Type 0
-Downs F G T lo r l s l′ = (f : ℕ) → r < f → Makes (down F G T f lo r (wordsIn l)) s l′
+abbrev pub Downs : List ℕ → List ℕ → ℕ → ℕ → List ℕ → ℕ → List ℕ → Type 0
+Downs F G lo r l s l′ = (f : ℕ) → r < f → Makes (down F G (metIn l) f lo r (wordsIn l)) (metIn l) s l′

@@ -1,16 +1,8 @@
 -- Mirror. The lines of a feed, from the answers to its events.
 use Prim.Native.Nat.{ℕ, _+_}
-use mathlib.Core.Bool.{cond}
 use mathlib.Core.List.{List, [], _∷_, _++_}
-use lib.Dec.{eqb}
-use Rattle.par.specs.declared.Status.{Status}
-use Rattle.par.specs.declared.Status.the-variants.{Waiting, Success, Failure}
 use Rattle.par.specs.declared.Answer.{Answer}
 use Rattle.printout.specs.Text.{ruleWord, decimal, line}
-
--- the status of a byte
-unfoldable pub statusOf : ℕ → Status
-statusOf b = cond (eqb b 0) Waiting (cond (eqb b 1) Success Failure)
 
 unfoldable pub linesOf : List ℕ → List Answer → List ℕ
 linesOf [] rs = []

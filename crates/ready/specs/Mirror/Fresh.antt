@@ -11,7 +11,7 @@ use Rattle.ready.specs.declared.fresh.Start.{Start}
 
 -- ---- one node
 
--- the nodes in play of node r afresh, from those of its first part and those of the node before it, its last part
+-- the nodes in play of node r afresh, from those of its first part and those of the node before it, which is the last part of a node that has parts
 unfoldable pub freshFrom : ℕ → ℕ → ℕ → ℕ → ℕ
 freshFrom kind r first last =
     cond (ltb kind 3) (one r)
@@ -19,7 +19,7 @@ freshFrom kind r first last =
     (cond (eqb kind 8) (with (with first last) (one r))
     (with first (one r))))
 
--- what it gains: a notify its set, any other what its last part has afresh
+-- what it gains: a notify its set, a then and a repeat what their last part has afresh; of any other node it is not read
 unfoldable pub gainFrom : ℕ → ℕ → ℕ → ℕ
 gainFrom kind set last = cond (eqb kind 7) set last
 

@@ -1,9 +1,12 @@
 -- `play::moves::one_end` meets its contract.
 use borrow.Author.Needs.{needs}
 use Rattle.play.specs.Mirror.Down.{oneEnd}
-use Rattle.play.proofs.Words.{four}
+use Rattle.play.proofs.Words.{five}
 use Rattle.play.proofs.moves.one_end.Statement.{statement}
 use Rattle.play.proofs.moves.one_end.Tie as tie
+
+status-of-requires : tie.Need-status-of-requires
+status-of-requires c κs = search needs
 
 element-copy-out-one-active : tie.Need-element-copy-out-one-active
 element-copy-out-one-active c = search needs
@@ -35,16 +38,20 @@ element-write-words-3 c = search needs
 one-status-requires : tie.Need-one-status-requires
 one-status-requires c κs = search needs
 
+status-byte-requires : tie.Need-status-byte-requires
+status-byte-requires c κs = search needs
+
 returns : tie.Need-returns
 unfolding oneEnd
 returns c =
-    let start = c .before .before .before .before .before .before .before in (
-      c .one-status .ensures,
+    let start = c .before .before .before .before .before .before .before .before .before in (
+      (cc),
       rw (
-        c .before .one-sent .ensures,
-        c .before .before .before .one-going .ensures,
-        c .before .before .before .before .before .one-active .ensures,
-        four (start .args .words .now) (start .pre .1),
+        c .before .before .one-sent .ensures,
+        c .before .before .before .before .one-going .ensures,
+        c .before .before .before .before .before .before .one-active .ensures,
+        c .before .before .before .before .before .before .before .before .status-of .ensures,
+        five (start .args .words .now) (start .pre .1),
       ),
     )
 
@@ -52,6 +59,7 @@ pub one-end-spec : {M : Type 1} → statement M
 one-end-spec =
     tie.close
     (tie.spec
+    status-of-requires
     element-copy-out-one-active
     one-active-requires
     element-write-words
@@ -62,4 +70,5 @@ one-end-spec =
     one-sent-requires
     element-write-words-3
     one-status-requires
+    status-byte-requires
     returns)

@@ -33,23 +33,19 @@ returns-7 : tie.Need-returns-7
 unfolding routeOf
 returns-7 c = search tests
 
+add-if8 : tie.Need-add-if8
+add-if8 c = search needs
+
 returns-8 : tie.Need-returns-8
 unfolding routeOf
 returns-8 c = search tests
 
-add-if9 : tie.Need-add-if9
-add-if9 c = search needs
-
-returns-9 : tie.Need-returns-9
-unfolding routeOf
-returns-9 c = search tests
-
 pair-of-requires : tie.Need-pair-of-requires
 pair-of-requires c κs = search needs
 
-returns-10 : tie.Need-returns-10
+returns-9 : tie.Need-returns-9
 unfolding routeOf
-returns-10 c = search (tests, c .pair-of .ensures)
+returns-9 c = search (tests, c .pair-of .ensures)
 
 pub route-of-spec : {M : Type 1} → statement M
 route-of-spec =
@@ -62,8 +58,7 @@ route-of-spec =
     returns-5
     returns-6
     returns-7
+    add-if8
     returns-8
-    add-if9
-    returns-9
     pair-of-requires
-    returns-10)
+    returns-9)

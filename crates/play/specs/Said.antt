@@ -1,4 +1,4 @@
--- What two words say: the expression that stands in the nodes lo .. r.
+-- What a reader must believe of what remains: the expression that the nodes in play and the repeats under way say, read off the nodes.
 use Prim.Native.Nat.{ℕ, zero, suc, _+_, _-_}
 use mathlib.Core.Bool.{cond}
 use mathlib.Core.List.{List}
@@ -27,3 +27,7 @@ module _ (F G : List ℕ) where
   unfoldable pub said : ℕ → ℕ → ℕ → ℕ → ℕ → Expr
   said zero A W lo r = Silent
   said (suc f) A W lo r = saying (said f) (kindAt F r) (gainAt G r) (firstAt F r) A W lo r
+
+-- of a whole rule whose last node is root: where no node is in play it has completed
+unfoldable pub remains : List ℕ → List ℕ → ℕ → ℕ → ℕ → Expr
+remains F G root A W = cond (eqb A 0) Silent (said F G (suc root) A W 0 root)

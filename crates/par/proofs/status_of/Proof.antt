@@ -1,8 +1,8 @@
--- `printout::text::status_of` meets its contract.
+-- `par::status_of` meets its contract.
 use borrow.Author.Tests.{ne-eqb}
-use Rattle.printout.specs.Mirror.Lines.{statusOf}
-use Rattle.printout.proofs.text.status_of.Statement.{statement}
-use Rattle.printout.proofs.text.status_of.Tie as tie
+use Rattle.par.specs.Status.{statusOf}
+use Rattle.par.proofs.status_of.Statement.{statement}
+use Rattle.par.proofs.status_of.Tie as tie
 
 returns : tie.Need-returns
 unfolding statusOf
