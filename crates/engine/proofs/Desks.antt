@@ -10,10 +10,10 @@ use borrow.Author.Tests.{ne-eqb}
 use Rattle.par.proofs.Silence.{nothing}
 use Rattle.files.specs.Rule.{ruleNumber}
 use Rattle.play.proofs.Promises.{finished, lines-few}
+use Rattle.play.proofs.Tests.{by-test}
 use Rattle.engine.specs.declared.Desk.{Desk}
 use Rattle.engine.specs.declared.Onward.{Onward}
 use Rattle.engine.specs.Mirror.Desk.{marked, openedOf, refusal, put, onward, steppedOf}
-use Rattle.engine.proofs.Tests.{by-test}
 
 pub refused-opening : (d : Desk) (s : List ℕ) → ruleNumber s ≢ 0 → openedOf d s .desk ≡ d
 unfolding openedOf

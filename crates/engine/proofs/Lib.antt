@@ -14,4 +14,3 @@ pub mod Filling
 pub mod Feeding
 pub mod Buffers
 pub mod DeskParts
-pub mod Tests

@@ -6,7 +6,7 @@ use mathlib.Core.Logic.{_≢_}
 use mathlib.Core.List.{List, [], _∷_, _++_}
 use native.Mathlib.Omega.{arith}
 use lib.Dec.{eqb, leb}
-use lib.ListN.{length, getD, take, drop}
+use lib.ListN.{length, take, drop}
 use lib.Seq.{sets, sets-eq}
 use borrow.Author.Tests.{eqb-true, eqb-false, leb-true, ne-eqb}
 use Rattle.par.specs.Expr.{Expr}
@@ -15,13 +15,13 @@ use Rattle.par.specs.Feed.{answers, Bytes}
 use Rattle.records.proofs.Tests.{cond-all}
 use Rattle.files.specs.Rule.{rule, ruleNumber}
 use Rattle.files.proofs.RuleNumbers.{rule-number}
+use Rattle.play.proofs.Tests.{by-test}
 use Rattle.ready.specs.declared.Ready.{Ready}
 use Rattle.ready.specs.Mirror.Ready.{readyOf}
 use Rattle.ready.proofs.Promises.{ready-number, ready-long, root-few}
 use Rattle.engine.specs.declared.feed.Ran.{Ran}
 use Rattle.engine.specs.Feed.{answerBytes, ranNumber, Fed}
 use Rattle.engine.specs.Mirror.Feed.{fedFrom, fedBytes}
-use Rattle.engine.proofs.Tests.{by-test}
 use Rattle.engine.proofs.Feeds.{rule-fed}
 
 answers-long : (events : List ℕ) (x : Expr) → length (answerBytes (answers x events)) ≡ 7 * length events

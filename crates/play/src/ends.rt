@@ -1,7 +1,7 @@
 // What a node makes of its parts' statuses: its own, and the words afterwards.
 ghost use mathlib.Core.Path.{_≡_};
 ghost use Prim.Native.Nat.{_+_, _-_, _≤_, _<_};
-ghost use Rattle.play.specs.Mirror.Down.{oneStatus, gainedActive, oneActive, oneGoing, oneSent, bothStatus, leftActive, bothActive, tryCounted, bothCounted};
+ghost use Rattle.play.specs.Mirror.Down.{oneStatus, gainedActive, oneActive, oneGoing, oneSent, bothStatus, leftActive, bothActive, bothCounted};
 use crate::masks;
 use par::Status;
 

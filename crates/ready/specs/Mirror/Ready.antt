@@ -8,7 +8,7 @@ use Rattle.files.specs.Reading.{reading}
 use Rattle.files.specs.Rule.{nodeIn, ruleNumber}
 use Rattle.ready.specs.declared.Ready.{Ready}
 use Rattle.ready.specs.Mirror.WrittenOut.{Wrote, wrote, last, writtenOut}
-use Rattle.ready.specs.Mirror.Fresh.{Prepared, startOf, prepares}
+use Rattle.ready.specs.Mirror.Fresh.{startOf, prepares}
 
 abbrev pub blank : Wrote
 blank = wrote (replicate 64 0) (replicate 64 0) 0

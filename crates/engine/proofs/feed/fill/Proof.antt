@@ -1,6 +1,5 @@
 -- `engine::feed::fill` meets its contract. The measure is the number of nodes that are left.
 use Prim.Native.Nat.{_-_}
-use native.Mathlib.Omega.{arith}
 use borrow.Author.Needs.{needs}
 use Rattle.engine.proofs.Filling.{Filling, filling-begins, filling-turn, filling-ended}
 use Rattle.engine.proofs.feed.fill.Statement.{statement}
