@@ -7,7 +7,8 @@ use native.Mathlib.Nat.{eq-or-lt-of-le}
 use native.Mathlib.Omega.{arith}
 use lib.Dec.{eqb}
 use lib.Count.{ones, ones-step}
-use Rattle.play.specs.Mirror.Masks.{bit, upto, Clear}
+use Rattle.play.specs.Mirror.Masks.{bit}
+use Rattle.play.proofs.Compared.{upto, Clear}
 use Rattle.play.proofs.Digits.{bit-zero, bit-suc, by-digit}
 
 pub upto-on : (M b : ℕ) → bit M b ≡ true → upto M (suc b) ≡ upto M b + 1

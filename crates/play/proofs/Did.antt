@@ -7,7 +7,8 @@ use native.Mathlib.Omega.{arith}
 use Rattle.par.specs.declared.Status.the-variants.{Waiting}
 use Rattle.par.specs.Expr.{Expr, join}
 use Rattle.par.specs.Step.{status as statusOf, notices as noticesOf, lines as linesOf, remainder}
-use Rattle.play.specs.Mirror.Masks.{bit, upto, Clear, Agree, Same}
+use Rattle.play.specs.Mirror.Masks.{bit}
+use Rattle.play.proofs.Compared.{upto, Clear, Agree, Same}
 use Rattle.play.specs.Mirror.Down.{Words, Made}
 use Rattle.play.specs.Mirror.Step.{metAt}
 use Rattle.play.proofs.Plays.{Plays}

@@ -12,7 +12,8 @@ use Rattle.par.specs.Expr.{Expr.silent as Silent, Expr.event as Event, Expr.not
 use Rattle.par.specs.Step.{pushed, status as statusOf, notices as noticesOf, lines as linesOf, remainder}
 use Rattle.par.proofs.Order.{success-waiting}
 use Rattle.par.proofs.Sets.{join-assoc, join-none}
-use Rattle.play.specs.Mirror.Masks.{bit, one, less, upto, Agree, Only}
+use Rattle.play.specs.Mirror.Masks.{bit, one, less}
+use Rattle.play.proofs.Compared.{upto, Agree, Only}
 use Rattle.play.specs.Mirror.Nodes.{firstAt, gainAt}
 use Rattle.play.specs.Mirror.Down.{Words, words, Made, made, oneStatus, oneActive, oneGoing, oneSent, oneEnd}
 use Rattle.play.proofs.Plays.{None, One, Plays, Plays.silent, Plays.event}

@@ -11,7 +11,8 @@ use Rattle.par.specs.declared.Status.the-variants.{Waiting, Success, Failure}
 use Rattle.par.specs.Expr.{Expr, join, Expr.either as Either, Expr.then as Then, Expr.try as Try}
 use Rattle.par.specs.Step.{tryLines, status as statusOf, notices as noticesOf, lines as linesOf, remainder}
 use Rattle.par.proofs.Sets.{join-assoc}
-use Rattle.play.specs.Mirror.Masks.{bit, clear, upto, Clear, Agree, Same, Only}
+use Rattle.play.specs.Mirror.Masks.{bit, clear}
+use Rattle.play.proofs.Compared.{upto, Clear, Agree, Same, Only}
 use Rattle.play.specs.Mirror.Nodes.{gainAt}
 use Rattle.play.specs.Mirror.Down.{Words, Made, oneStatus, oneEnd, bothStatus, bothCounted, bothEnd}
 use Rattle.play.proofs.Plays.{Two, Plays}

@@ -5,7 +5,8 @@ use mathlib.Core.Bool.{true, true≢false}
 use mathlib.Core.List.{List}
 use native.Mathlib.Omega.{arith}
 use Rattle.par.specs.Expr.{Expr}
-use Rattle.play.specs.Mirror.Masks.{bit, Clear, Agree}
+use Rattle.play.specs.Mirror.Masks.{bit}
+use Rattle.play.proofs.Compared.{Clear, Agree}
 use Rattle.play.proofs.Plays.{Plays}
 use Rattle.play.proofs.Plays.{Plays.silent, Plays.event, Plays.not, Plays.notify, Plays.repeat-fresh, Plays.repeat-going}
 use Rattle.play.proofs.Plays.{Plays.either-both, Plays.either-first, Plays.either-second, Plays.then-first, Plays.then-second}

@@ -9,7 +9,8 @@ use lib.Dec.{eqb, ltb}
 use borrow.Author.Tests.{le-ltb, le-leb, lt-leb, eq-eqb, ne-eqb}
 use Rattle.play.specs.declared.ways.Route.{Route}
 use Rattle.play.specs.declared.ways.Route.the-variants.{Silent, One as OneWay}
-use Rattle.play.specs.Mirror.Masks.{bit, hit, Clear}
+use Rattle.play.specs.Mirror.Masks.{bit, hit}
+use Rattle.play.proofs.Compared.{Clear}
 use Rattle.play.specs.Mirror.Nodes.{kindAt, firstAt, gainAt}
 use Rattle.play.specs.Mirror.Down.{Words, pairRoute, routeOf, taken, came, down}
 use Rattle.play.proofs.Plays.{One, Two}

@@ -14,6 +14,7 @@ pub mod Few
 pub mod Rests
 pub mod Frame
 pub mod Ranges
+pub mod Compared
 pub mod Comes
 pub mod Lowest
 pub mod Counts

@@ -6,7 +6,8 @@ use mathlib.Core.List.{List}
 use Rattle.par.specs.Expr.{Expr}
 use Rattle.par.specs.Expr.{Expr.silent as Silent, Expr.event as Event, Expr.not as Not, Expr.either as Either}
 use Rattle.par.specs.Expr.{Expr.then as Then, Expr.repeat as Repeat, Expr.notify as Notify, Expr.try as Try}
-use Rattle.play.specs.Mirror.Masks.{bit, Clear, Only}
+use Rattle.play.specs.Mirror.Masks.{bit}
+use Rattle.play.proofs.Compared.{Clear, Only}
 use Rattle.play.specs.Mirror.Nodes.{kindAt, firstAt, gainAt}
 
 -- node r is of this kind and has no part; it is its only node

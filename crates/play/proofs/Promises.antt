@@ -6,7 +6,8 @@ use mathlib.Core.List.{List}
 use Rattle.par.specs.declared.Status.the-variants.{Waiting}
 use Rattle.par.specs.Expr.{Expr}
 use Rattle.play.specs.Said.{remains}
-use Rattle.play.specs.Mirror.Masks.{both, hit, Clear}
+use Rattle.play.specs.Mirror.Masks.{both, hit}
+use Rattle.play.proofs.Compared.{Clear}
 use Rattle.play.specs.Mirror.Down.{Words, made, down}
 use Rattle.play.specs.Mirror.Step.{comes, stepped}
 use Rattle.play.proofs.Plays.{Plays, Stands}

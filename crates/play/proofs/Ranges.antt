@@ -5,7 +5,8 @@ use mathlib.Core.Bool.{Bool, true, false}
 use native.Mathlib.Omega.{arith}
 use lib.Dec.{leb}
 use borrow.Author.Tests.{leb-true, leb-false}
-use Rattle.play.specs.Mirror.Masks.{bit, one, with, less, clear, Clear, Agree, Same, Only}
+use Rattle.play.specs.Mirror.Masks.{bit, one, with, less, clear}
+use Rattle.play.proofs.Compared.{Clear, Agree, Same, Only}
 use Rattle.play.proofs.Digits.{bit-none, less-other, with-left, bits-small}
 use Rattle.play.proofs.Spans.{clear-in, clear-below, clear-above}
 

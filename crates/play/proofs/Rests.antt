@@ -15,7 +15,8 @@ use Rattle.par.specs.Expr.{Expr}
 use Rattle.par.specs.Expr.{Expr.not as Not, Expr.repeat as Repeat, Expr.notify as Notify}
 use Rattle.par.specs.Step.{kept, thenRest, eitherRest, tryRest}
 use Rattle.par.proofs.Order.{success-waiting, failure-waiting}
-use Rattle.play.specs.Mirror.Masks.{bit, one, less, clear, Clear, Agree, Same, Only}
+use Rattle.play.specs.Mirror.Masks.{bit, one, less, clear}
+use Rattle.play.proofs.Compared.{Clear, Agree, Same, Only}
 use Rattle.play.specs.Mirror.Nodes.{gainAt}
 use Rattle.play.specs.Mirror.Down.{oneStatus, oneActive, oneGoing, leftActive, bothActive, tryCounted, bothCounted}
 use Rattle.play.proofs.Plays.{One, Two, Plays}

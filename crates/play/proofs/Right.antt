@@ -11,7 +11,8 @@ use Rattle.par.specs.declared.Status.the-variants.{Waiting}
 use Rattle.par.specs.Expr.{Expr}
 use Rattle.play.specs.declared.ways.Route.{Route}
 use Rattle.play.specs.declared.ways.Route.the-variants.{Both, Left, Right}
-use Rattle.play.specs.Mirror.Masks.{bit, hit, Clear}
+use Rattle.play.specs.Mirror.Masks.{bit, hit}
+use Rattle.play.proofs.Compared.{Clear}
 use Rattle.play.specs.Mirror.Nodes.{firstAt, gainAt}
 use Rattle.play.specs.Mirror.Down.{Words, Made, made, pairRoute, oneStatus, oneActive, oneGoing, oneSent, oneEnd}
 use Rattle.play.specs.Mirror.Down.{bothStatus, leftActive, bothActive, tryCounted, bothCounted, bothEnd, down}

@@ -6,7 +6,8 @@ use native.Mathlib.Omega.{arith}
 use lib.Dec.{eqb, leb, ltb, leb·suc-zero, leb·suc-suc}
 use lib.Pow.{pow-pos}
 use borrow.Author.Tests.{eq-eqb, eqb-true, not-false, lt-ltb, le-ltb, leb-true, leb-false}
-use Rattle.play.specs.Mirror.Masks.{bit, one, both, below, span, clear, hit, Clear}
+use Rattle.play.specs.Mirror.Masks.{bit, one, both, below, span, clear, hit}
+use Rattle.play.proofs.Compared.{Clear}
 use Rattle.play.proofs.Digits.{and-true, and-false, bit-zero, bit-suc, bit-none, bit-both, bit-less, none-zero, both-small}
 
 -- ---- its digits

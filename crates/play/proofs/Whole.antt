@@ -16,7 +16,8 @@ use Rattle.par.proofs.Sets.{none-join}
 use Rattle.par.proofs.Order.{success-waiting, failure-waiting}
 use Rattle.par.proofs.Figure4.{finished as nothing-left}
 use Rattle.play.specs.declared.Moved.{Moved}
-use Rattle.play.specs.Mirror.Masks.{bit, both, hit, upto, Only}
+use Rattle.play.specs.Mirror.Masks.{bit, both, hit}
+use Rattle.play.proofs.Compared.{upto, Only}
 use Rattle.play.specs.Mirror.Down.{Words, words, Made, made, down}
 use Rattle.play.specs.Mirror.Step.{comes, rested, moved, movedBy, steppedBy, stepped}
 use Rattle.play.proofs.Plays.{Plays, Stands, Stands.goes, Stands.over}

@@ -6,7 +6,8 @@ use mathlib.Core.List.{List}
 use native.Mathlib.Omega.{arith}
 use borrow.Author.Tests.{eq-eqb, ne-eqb}
 use Rattle.par.specs.Expr.{Expr}
-use Rattle.play.specs.Mirror.Masks.{bit, one, with, Clear, Only}
+use Rattle.play.specs.Mirror.Masks.{bit, one, with}
+use Rattle.play.proofs.Compared.{Clear, Only}
 use Rattle.play.proofs.Plays.{Plays}
 use Rattle.play.proofs.Digits.{bit-one, with-other, with-left, with-right}
 use Rattle.play.proofs.Ranges.{agree-self, agree-before, same-with, only-wider}
