@@ -6,7 +6,7 @@ use native.Mathlib.Omega.{arith}
 use Rattle.par.specs.declared.Status.{Status}
 use Rattle.par.specs.declared.Status.TheVariants.{Waiting, Success, Failure}
 use Rattle.par.specs.Expr.{Expr}
-use Rattle.par.specs.Step.{status, try_lines, lines}
+use Rattle.par.specs.Step.{try_lines, lines}
 use Rattle.par.specs.Figures.{Completes, rules_used}
 use Rattle.par.specs.Figures.{Completes.α_silent, Completes.α_ev₁, Completes.α_ev₂, Completes.α_seq, Completes.α_sel}
 use Rattle.par.specs.Figures.{Completes.α_rep, Completes.α_push, Completes.α_neg, Completes.α_try₁, Completes.α_try₂}

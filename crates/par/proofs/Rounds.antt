@@ -65,7 +65,7 @@ module _ (b : ℕ) where
   round_lines : (k : ℕ) {x : Expr} → Round b k x → (feed : List ℕ) (a : ℕ) → lines (after x feed) a ≡ suc k
   unfolding after
   round_lines k r [] a = (turns k r a).full
-  round_lines k r (c ∷ feed) a = round_lines k (turns k r c).on feed a
+  round_lines k {x = x} r (c ∷ feed) a = round_lines k {x = remainder x c} (turns k r c).on feed a
 
   pub lines_reached : (k : ℕ) (feed : List ℕ) (a : ℕ) → lines (after (repeats k (event b)) feed) a ≡ size (repeats k (event b))
   lines_reached k feed a = round_lines k (first k) feed a ∙ sym (repeats_size b k)

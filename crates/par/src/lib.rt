@@ -1,4 +1,6 @@
 // PAR's statuses and answers, and the records that a file holds. What they mean stands in specs/, with the paper's figures.
+#![tactic(auto)]
+
 ghost use Rattle.std.specs.Prelude.{◌≡◌, ◌<◌};
 ghost use Rattle.par.specs.Status.{opposite as opposed, higher, tried, status_byte, status_of};
 
@@ -6,7 +8,7 @@ ghost use Rattle.par.specs.Status.{opposite as opposed, higher, tried, status_by
 pub type Notices = u16;
 
 // How an expression stands after an event.
-#[derive(Drop)]
+#[derive(Clone, Copy)]
 pub enum Status {
     Waiting,
     Success,
@@ -14,7 +16,7 @@ pub enum Status {
 }
 
 // What one event is answered with: the notices to send, the lines of the status rules that were used, and the status.
-#[derive(Drop)]
+#[derive(Clone, Copy)]
 pub struct Answer {
     pub notices: Notices,
     pub lines: u64,
@@ -22,7 +24,7 @@ pub struct Answer {
 }
 
 // A record of an expression file: its construct and its body. Parts are numbers of earlier records.
-#[derive(Drop)]
+#[derive(Clone, Copy)]
 pub enum Node {
     Silent,
     Event(u8),
