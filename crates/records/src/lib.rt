@@ -1,4 +1,6 @@
 // A record in the lent bytes: its fields in place, its kind and length, what it says, and what stands at a place of a file.
+#![tactic(auto)]
+
 ghost use Rattle.std.specs.Prelude.{◌≡◌, ◌+◌, get_or};
 ghost use Rattle.records.specs.Fields.{word_at};
 ghost use Rattle.records.specs.Kinds.{kind_of, length_in, most_of};
@@ -8,14 +10,14 @@ ghost use Rattle.records.specs.Next.{next_at};
 use par::Node;
 
 // What a file holds.
-#[derive(Drop)]
+#[derive(Clone, Copy)]
 pub enum Contents {
     Expressions,
     Pairs,
 }
 
 // Which file's list a kind stands in, with the length of its records.
-#[derive(Drop)]
+#[derive(Clone, Copy)]
 pub enum Kind {
     Construct(u16),
     Pair(u16),
@@ -23,7 +25,7 @@ pub enum Kind {
 }
 
 // What stands at a place of a file: with a record, and with one that is passed over, where the next begins.
-#[derive(Drop)]
+#[derive(Clone, Copy)]
 pub enum Next {
     End,
     Refused(u8),
@@ -32,7 +34,7 @@ pub enum Next {
 }
 
 // Kind and body as three numbers: two records are the same where all three are.
-#[derive(Drop)]
+#[derive(Clone, Copy)]
 pub struct Key {
     pub kind: u8,
     pub x: usize,
