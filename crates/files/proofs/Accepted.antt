@@ -71,6 +71,7 @@ accepted_file s e = read_file s
 says_some : {s : List ℕ} {contents : Contents} {Body : ℕ → List ℕ → ℕ → Type 0} {pos : ℕ} {ps : List ℕ} → Says s contents Body (found 0 pos ps)
     → 1 ≤ length ps
 says_some (accepted before stands some) = some
+says_some (refused _ e) = elim e [ ]
 
 pub accepted_some : (s : List ℕ) → (reading s).number ≡ 0 → 1 ≤ length (reading s).places
 accepted_some s e = says_some (with_number (reading_says s) e)

@@ -43,10 +43,12 @@ module _ (s : List ℕ) (contents : Contents) (Body : ℕ → List ℕ → ℕ �
   says_1 : {pos : ℕ} {ps : List ℕ} → Says s contents Body (found 1 pos ps) → Never Body 1 → length s ≡ 0
   says_1 (empty before (ended h)) never = let e = sound_first before refl in omega arith
   says_1 (body_refused before stands fault) never = absurd (never _ _ fault)
+  says_1 (refused _ e) never = elim e [ ]
 
   module _ {pos : ℕ} {ps : List ℕ} where
     says_0 : Says s contents Body (found 0 pos ps) → pos ≤ length s → length ps ≤ most_of contents → Accepted s contents Body
     says_0 (accepted before (ended h) some) inside few = record { at = here before; ends = omega arith; some = some; few = few }
+    says_0 (refused _ e) inside few = elim e [ ]
 
     says_2 : Says s contents Body (found 2 pos ps) → Never Body 2 → NoHeader s contents Body ⊎ CutShort s contents Body
     says_2 (refused before (no_header room short)) never = inl (record { at = here before; room = room; short = short })
@@ -63,9 +65,11 @@ module _ (s : List ℕ) (contents : Contents) (Body : ℕ → List ℕ → ℕ �
 
     says_5 : Says s contents Body (found 5 pos ps) → Faulty 5
     says_5 (body_refused before stands fault) = faulty before stands fault
+    says_5 (refused _ e) = elim e [ ]
 
     says_6 : Says s contents Body (found 6 pos ps) → Faulty 6
     says_6 (body_refused before stands fault) = faulty before stands fault
+    says_6 (refused _ e) = elim e [ ]
 
     says_7 : Says s contents Body (found 7 pos ps) → Never Body 7 → length ps ≤ most_of contents → TooMany s contents Body
     says_7 (refused before (too_many more many)) never few = record { at = here before; full = omega arith; more = more }
@@ -73,6 +77,7 @@ module _ (s : List ℕ) (contents : Contents) (Body : ℕ → List ℕ → ℕ �
 
     says_14 : Says s contents Body (found 14 pos ps) → Faulty 14
     says_14 (body_refused before stands fault) = faulty before stands fault
+    says_14 (refused _ e) = elim e [ ]
 
   -- what holds of the numbers of records, and of those of bodies, holds of the file's
   module _ (P : ℕ → Type 0) (p0 : P 0) (p1 : P 1) (p2 : P 2) (p3 : P 3) (p4 : P 4) (p7 : P 7)

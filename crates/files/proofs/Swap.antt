@@ -1,4 +1,5 @@
 -- The swap rule's file, read by computation.
+use Rattle.std.proofs.Common.{◌-◌, length, sym, subst}
 use mathlib.Core.Path.{◌≡◌, refl}
 use mathlib.Core.List.{[], ◌∷◌}
 use Rattle.par.specs.Expr.{size}
@@ -8,7 +9,7 @@ use Rattle.records.specs.Fields.{word_at}
 use Rattle.records.specs.Kinds.{kind_of}
 use Rattle.records.specs.Constructs.{node_of, node_at}
 use Rattle.records.specs.Next.{next_at}
-use Rattle.records.specs.Walk.{found, turn, follow, walk, walked}
+use Rattle.records.specs.Walk.{Found, found, turn, follow, walk, walked}
 use Rattle.files.specs.Reading.{seen_in, expression_body, reading}
 use Rattle.files.specs.Rule.{node_in, expr_of, rule}
 use Rattle.files.specs.Swap.{swap_bytes}
@@ -19,7 +20,12 @@ swap_reading = refl
 
 pub swap_rule : rule swap_bytes ≡ repeat (then (event 0x6f) (try (notify (then (event 0x61) (event 0x63)) 3) (event 0x77)))
 unfolding rule expr_of expr expr_within node_in node_at node_of word_at
-swap_rule = rw swap_reading
+swap_rule =
+    let P : Found → Type 0 =
+    λ f. expr (node_in swap_bytes f.places) (length f.places - 1)
+    ≡ repeat (then (event 0x6f) (try (notify (then (event 0x61) (event 0x63)) 3) (event 0x77)))
+    in
+    subst P (sym swap_reading) refl
 
 pub swap_size : size (rule swap_bytes) ≡ 9
 unfolding size
