@@ -23,7 +23,7 @@ fn main() {
             println!("cargo::rustc-link-lib=static=meadwhistle");
         }
         _ => println!(
-            "cargo::error=no {FILE_NAME} at {}: `rt staticlib meadwhistle` in the repository writes it, \
+            "cargo::error=no {FILE_NAME} at {}: `./build archive` in the repository writes it, \
              and {VARIABLE} names one that stands elsewhere",
             library.display()
         ),

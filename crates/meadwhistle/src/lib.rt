@@ -1,4 +1,6 @@
-// What other languages call: slices cross as a pointer and a length, statuses as their byte, structs by value.
+// What other languages call, as functions of this library: slices cross as a pointer and a length, statuses as their byte, structs by value. The crate
+// `meadwhistle_c` exports each under its name.
+#![tactic(auto)]
 ghost use Rattle.std.specs.Prelude.{◌≡◌};
 ghost use Rattle.engine.specs.Feed.{Fed};
 ghost use Rattle.engine.specs.History.{Call.opening, Back.numbered, ByTheBook};
@@ -14,7 +16,7 @@ use engine::{Desk, Ran, Reply};
 
 // A reply in numbers: the number, the status byte, the notices, the lines.
 #[repr(C)]
-#[derive(Drop)]
+#[derive(Clone, Copy)]
 pub struct FlatReply {
     pub number: u8,
     pub status: u8,
@@ -24,15 +26,14 @@ pub struct FlatReply {
 
 // Where the part that is shown begins: file 0 is the expressions, 1 the pairs. It runs from `place` to that file's end.
 #[repr(C)]
-#[derive(Drop)]
+#[derive(Clone, Copy)]
 pub struct Part {
     pub file: u8,
     pub place: usize,
 }
 
 // Answers a whole feed.
-#[unsafe(no_mangle)]
-pub extern "C" fn meadwhistle_run(
+pub fn meadwhistle_run(
     rule: &[u8],
     events: &[u8],
     answers: &mut [u8],
@@ -44,16 +45,14 @@ pub extern "C" fn meadwhistle_run(
 }
 
 // A desk with no rule open.
-#[unsafe(no_mangle)]
-pub extern "C" fn meadwhistle_desk_empty() -> Desk
+pub fn meadwhistle_desk_empty() -> Desk
     ensures { result ≡ empty_desk }
 {
     engine::empty()
 }
 
 // Opens a rule on a desk, fresh; refused, the desk is as it was.
-#[unsafe(no_mangle)]
-pub extern "C" fn meadwhistle_desk_open(d: &mut Desk, rule: &[u8]) -> u8
+pub fn meadwhistle_desk_open(d: &mut Desk, rule: &[u8]) -> u8
     ensures { (result ≡ (opened_of d.old rule.now).number)
         × (d.new ≡ (opened_of d.old rule.now).desk)
         × ByTheBook d.old (opening rule.now) (numbered result) d.new }
@@ -76,8 +75,7 @@ fn flat(reply: Reply) -> FlatReply
 
 // Moves an open desk on by one event; refused, the desk is as it was. On a desk made empty, whatever openings and steps went before, reply and remainder
 // are what the figures give for the rule accepted last after the events since, in at most as many lines as it has nodes.
-#[unsafe(no_mangle)]
-pub extern "C" fn meadwhistle_desk_step(d: &mut Desk, event: u8) -> FlatReply
+pub fn meadwhistle_desk_step(d: &mut Desk, event: u8) -> FlatReply
     ensures { (result ≡ flat_reply (stepped_of d.old event).reply)
         × (d.new ≡ (stepped_of d.old event).desk)
         × FlatByTheBook d.old event result d.new
@@ -88,16 +86,14 @@ pub extern "C" fn meadwhistle_desk_step(d: &mut Desk, event: u8) -> FlatReply
 }
 
 // The number of a proposal: 0 where it is accepted.
-#[unsafe(no_mangle)]
-pub extern "C" fn meadwhistle_judge(expressions: &[u8], pairs: &[u8]) -> u8
+pub fn meadwhistle_judge(expressions: &[u8], pairs: &[u8]) -> u8
     ensures { result ≡ (judged expressions.now pairs.now).number }
 {
     alike::judge(expressions, pairs)
 }
 
 // The faulty record of the same proposal; where it is accepted, the empty part at the pairs' end.
-#[unsafe(no_mangle)]
-pub extern "C" fn meadwhistle_shown(expressions: &[u8], pairs: &[u8]) -> Part
+pub fn meadwhistle_shown(expressions: &[u8], pairs: &[u8]) -> Part
     ensures { result ≡ part_of (judged expressions.now pairs.now) }
 {
     let v = alike::verdict_of(expressions, pairs);
@@ -109,8 +105,7 @@ pub extern "C" fn meadwhistle_shown(expressions: &[u8], pairs: &[u8]) -> Part
 }
 
 // The printer's text for an input, at the front of `output` where it fits; where it does not, no byte changes. Returns the text's length.
-#[unsafe(no_mangle)]
-pub extern "C" fn meadwhistle_print(input: &[u8], output: &mut [u8]) -> usize
+pub fn meadwhistle_print(input: &[u8], output: &mut [u8]) -> usize
     ensures { PrintedAs (text_of input.now) output.old result output.new }
 {
     printout::print(input, output)

@@ -20,7 +20,7 @@
 //! A [`Desk`] takes events one by one, [`run`] a whole feed, [`judge`] says whether two rules behave alike, and [`print()`] gives
 //! the printer's text. The engine keeps no state but the desk, so all of these may run side by side.
 //!
-//! Building needs the engine's static library, which `rt staticlib meadwhistle` proves and writes; the variable `MEADWHISTLE_LIB`
+//! Building needs the engine's static library, which `./build archive` proves and writes; the variable `MEADWHISTLE_LIB`
 //! names one that doesn't stand in this repository's `target/`. What is proved is the library; this crate is tested.
 
 mod desk;
