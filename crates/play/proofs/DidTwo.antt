@@ -168,11 +168,11 @@ module _ {F G : List ℕ} {L R T a A lo x y : ℕ} {st : Words} {d e : Expr} {m 
       counts M lo (suc y) (lines_of d a)
       (s.at (suc y) (omega arith) (omega arith) ∙ (same_clear C (suc x) y).above (suc y) (omega arith) ∙ both_at.counted ∙ p) (omega arith)
 
-  try_lines : (s : Status) (M : ℕ) → Agree lo (suc y) (cond (done s) (clear k.after.counted (suc x) y) k.after.counted) M
+  try_lines_lem : (s : Status) (M : ℕ) → Agree lo (suc y) (cond (done s) (clear k.after.counted (suc x) y) k.after.counted) M
       → upto M (suc (suc y)) ≡ upto M lo + try_lines s (lines_of d a) (lines_of e a)
-  try_lines Waiting M s = both_lines M s
-  try_lines Success M s = cut_lines M s
-  try_lines Failure M s = cut_lines M s
+  try_lines_lem Waiting M s = both_lines M s
+  try_lines_lem Success M s = cut_lines M s
+  try_lines_lem Failure M s = cut_lines M s
 
   try_same : (s : Status) → Same lo (suc y) k.after.counted (cond (done s) (clear k.after.counted (suc x) y) k.after.counted)
   try_same Waiting = same_self
@@ -188,7 +188,7 @@ module _ {F G : List ℕ} {L R T a A lo x y : ℕ} {st : Words} {d e : Expr} {m 
       (record {
         status = refl;
         sent = both_sent;
-        lines = try_lines s;
+        lines = try_lines_lem s;
         plays = λ w. try_left (remainder d a) (remainder e a) (both_at.play ∙ p) at s t w both_plays h.plays h.off;
         off = both_off (both_status 8 s t) s t lo (suc y) k.after.active;
         beside =

@@ -28,7 +28,7 @@ module _ {F G : List ℕ} {L R : ℕ} where
       go true i = refl
       go false i = absurd (some_in m (hit_false A lo r i))
 
-  pub plays_said : {A W lo r : ℕ} {e : Expr} (f : ℕ) → Plays F G L R A W lo r e → r < f → A < 2 ^ 64 → said F G f A W lo r ≡ e
+  pub plays_said : (f : ℕ) {A W lo r : ℕ} {e : Expr} → Plays F G L R A W lo r e → r < f → A < 2 ^ 64 → said F G f A W lo r ≡ e
   unfolding said
   plays_said zero m h s = absurd (omega arith)
   plays_said (suc f) (silent at l p) h s = rw at.kind_is refl

@@ -1,5 +1,7 @@
 // One event on a rule whose nodes are written out, each right behind its last part. What changes is two words: the nodes in play, and the repeats
 // under way. Only what completes costs time.
+#![tactic(auto)]
+
 pub mod masks; // masks.rt: sets of nodes
 pub mod ways; // ways.rt: which way a node takes an event
 pub mod ends; // ends.rt: what a node makes of its parts' statuses
@@ -13,14 +15,14 @@ ghost use Rattle.play.specs.Mirror.Step.{comes, rested as resting, moved_by, ste
 use par::Status;
 
 // How far a rule has come: the nodes in play, and the repeats among them that are under way in their bodies. A rule with none in play has completed.
-#[derive(Drop)]
+#[derive(Clone, Copy)]
 pub struct State {
     pub active: u64,
     pub going: u64,
 }
 
 // What one event gives, and the state that it leaves.
-#[derive(Drop)]
+#[derive(Clone, Copy)]
 pub struct Moved {
     pub status: Status,
     pub notices: u64,
@@ -30,6 +32,7 @@ pub struct Moved {
 }
 
 // met with node r, which is the number n, if its event is the one that came.
+#[tactic(auto, using(crate::proofs::Tests::tests), unfolding(crate::specs::Mirror::Masks::with))]
 fn met_with(n: u16, r: usize, event: u8, met: u64) -> u64
     requires { r < 64 }
     ensures { result ≡ cond (eqb (n / 256) event) (with met (one r)) met }
@@ -73,6 +76,7 @@ fn rest_lines(active: u64) -> u64
 }
 
 // No event in play came: nothing completes, and every repeat in play is under way.
+#[tactic(auto, unfolding(crate::specs::Mirror::Masks::both))]
 fn rested(repeats: u64, active: u64) -> Moved
     ensures { result ≡ resting repeats active }
 {

@@ -3,6 +3,7 @@ ghost use Rattle.std.specs.Prelude.{◌≡◌, ◌≤◌, ◌<◌};
 ghost use Rattle.play.specs.Mirror.Masks.{bit, one as single, less, below, span as spanned, clear as cleared, hit as holds};
 
 // Node r alone.
+#[tactic(auto, using(crate::proofs::Shifts::shifted), unfolding(crate::specs::Mirror::Masks::one))]
 pub fn one(r: usize) -> u64
     requires { r < 64 }
     ensures { result ≡ single r }
@@ -11,6 +12,7 @@ pub fn one(r: usize) -> u64
 }
 
 // The nodes below lo.
+#[tactic(auto, using(crate::proofs::Shifts::shifted), unfolding(crate::specs::Mirror::Masks::below))]
 fn low(lo: usize) -> u64
     requires { lo < 64 }
     ensures { result ≡ below lo }
@@ -19,6 +21,7 @@ fn low(lo: usize) -> u64
 }
 
 // Those of a that are not in b.
+#[tactic(auto, unfolding(crate::specs::Mirror::Masks::less))]
 pub fn without(a: u64, b: u64) -> u64
     ensures { result ≡ less a b }
 {
@@ -26,6 +29,7 @@ pub fn without(a: u64, b: u64) -> u64
 }
 
 // The nodes lo .. r.
+#[tactic(auto, using(crate::proofs::Shifts::top_fits), unfolding(crate::specs::Mirror::Masks::span))]
 pub fn span(lo: usize, r: usize) -> u64
     requires { (lo ≤ r) × (r < 64) }
     ensures { result ≡ spanned lo r }
@@ -35,6 +39,7 @@ pub fn span(lo: usize, r: usize) -> u64
 }
 
 // Those of a outside lo .. r.
+#[tactic(auto, unfolding(crate::specs::Mirror::Masks::clear))]
 pub fn clear(a: u64, lo: usize, r: usize) -> u64
     requires { (lo ≤ r) × (r < 64) }
     ensures { result ≡ cleared a lo r }
@@ -43,6 +48,7 @@ pub fn clear(a: u64, lo: usize, r: usize) -> u64
 }
 
 // Whether any of t stands in lo .. r.
+#[tactic(auto, unfolding(crate::specs::Mirror::Masks::hit, crate::specs::Mirror::Masks::both))]
 pub fn hit(t: u64, lo: usize, r: usize) -> bool
     requires { (lo ≤ r) × (r < 64) }
     ensures { result ≡ holds t lo r }
@@ -51,6 +57,7 @@ pub fn hit(t: u64, lo: usize, r: usize) -> bool
 }
 
 // Whether node r is in a.
+#[tactic(auto, unfolding(crate::specs::Mirror::Masks::bit))]
 pub fn has(a: u64, r: usize) -> bool
     requires { r < 64 }
     ensures { result ≡ bit a r }
