@@ -5,7 +5,7 @@ ghost use Rattle.ready.specs.Mirror.Fresh.{fresh_from, gain_from, marked as mark
 use play::masks;
 
 // The nodes in play before the first event, the event nodes, and the repeats.
-#[derive(Drop)]
+#[derive(Clone, Copy)]
 pub struct Start {
     pub fresh: u64,
     pub leaves: u64,

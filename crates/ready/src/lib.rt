@@ -1,4 +1,6 @@
 // A rule's file made ready to run: its expression written out as nodes, and what a step needs beside them.
+#![tactic(auto)]
+
 pub mod writing; // writing.rt: the expression becomes nodes, parts before their whole
 pub mod fresh; // fresh.rt: which nodes come into play, and what each gains
 
@@ -7,7 +9,7 @@ ghost use Rattle.ready.specs.Mirror.Ready.{ready_of};
 
 // The number of a rule file and, at 0, the rule: the number of its last node, its event nodes and its repeats, the nodes in play before the first
 // event, the nodes and what each gains. Refused, no node stands.
-#[derive(Drop)]
+#[derive(Clone, Copy)]
 pub struct Ready {
     pub number: u8,
     pub root: usize,
