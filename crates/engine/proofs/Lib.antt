@@ -13,4 +13,3 @@ pub mod Bytes
 pub mod Filling
 pub mod Feeding
 pub mod Buffers
-pub mod DeskParts

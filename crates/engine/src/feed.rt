@@ -149,7 +149,7 @@ fn has_room(len: usize, place: usize, n: usize) -> bool
 
 // The number, and how many bytes were written.
 #[repr(C)]
-#[derive(Drop)]
+#[derive(Clone, Copy)]
 pub struct Ran {
     pub number: u8,
     pub written: usize,

@@ -1,4 +1,6 @@
 // Running a rule: the whole feed at once, or event by event on a desk.
+#![tactic(auto)]
+
 pub mod feed; // feed.rt: the whole feed
 
 ghost use Rattle.std.specs.Prelude.{◌≡◌, length};
@@ -14,7 +16,7 @@ use play::State;
 // yes; the rule's nodes and what a step needs beside them, which stay from one opening to the next; and the two words that a step moves on: the nodes
 // in play, and the repeats under way. A rule with no node in play has completed.
 #[repr(C)]
-#[derive(Drop)]
+#[derive(Clone, Copy)]
 pub struct Desk {
     is_open: u8,
     root: usize,
@@ -27,14 +29,14 @@ pub struct Desk {
 }
 
 // What a step answers: its number and, at 0, the event's answer; for a refusal none, waiting, 0.
-#[derive(Drop)]
+#[derive(Clone, Copy)]
 pub struct Reply {
     pub number: u8,
     pub answer: Answer,
 }
 
 // What a step by value gives back: the two words, and the reply.
-#[derive(Drop)]
+#[derive(Clone, Copy)]
 struct Onward {
     active: u64,
     going: u64,
@@ -42,14 +44,14 @@ struct Onward {
 }
 
 // What a step of a whole desk by value gives back.
-#[derive(Drop)]
+#[derive(Clone, Copy)]
 pub struct Moved {
     pub desk: Desk,
     pub reply: Reply,
 }
 
 // What an opening by value gives back.
-#[derive(Drop)]
+#[derive(Clone, Copy)]
 pub struct Begun {
     pub desk: Desk,
     pub number: u8,
