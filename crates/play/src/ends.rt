@@ -7,7 +7,7 @@ use par::Status;
 
 // ---- a node with one part that steps, whose status is s
 
-#[tactic(auto, using(crate::proofs::Tests::tests), unfolding(crate::specs::Mirror::Down::one_status))]
+#[tactic(auto, unfolding(crate::specs::Mirror::Down::one_status))]
 pub fn one_status(kind: u16, s: Status) -> Status
     ensures { result ≡ one_status kind s }
 {
@@ -25,7 +25,7 @@ pub fn one_status(kind: u16, s: Status) -> Status
 }
 
 // The part succeeded: a then goes on with its second part, a repeat has its body anew, any other has completed.
-#[tactic(auto, using(crate::proofs::Tests::tests), unfolding(crate::specs::Mirror::Masks::with))]
+#[tactic(auto, unfolding(crate::specs::Mirror::Masks::with))]
 fn gained(kind: u16, gain: u64, lo: usize, r: usize, active: u64) -> u64
     requires { (lo ≤ r) × (r < 64) }
     ensures { result ≡ gained_active kind gain lo r active }
@@ -40,7 +40,7 @@ fn gained(kind: u16, gain: u64, lo: usize, r: usize, active: u64) -> u64
 }
 
 // The nodes in play.
-#[tactic(auto, using(crate::proofs::Tests::tests), unfolding(crate::specs::Mirror::Down::one_active))]
+#[tactic(auto, unfolding(crate::specs::Mirror::Down::one_active))]
 pub fn one_active(kind: u16, s: Status, gain: u64, lo: usize, r: usize, active: u64) -> u64
     requires { (lo ≤ r) × (r < 64) }
     ensures { result ≡ one_active kind s gain lo r active }
@@ -53,7 +53,7 @@ pub fn one_active(kind: u16, s: Status, gain: u64, lo: usize, r: usize, active: 
 }
 
 // The repeats that go on in their bodies.
-#[tactic(auto, using(crate::proofs::Tests::tests), unfolding(crate::specs::Mirror::Down::one_going))]
+#[tactic(auto, unfolding(crate::specs::Mirror::Down::one_going))]
 pub fn one_going(kind: u16, s: Status, lo: usize, r: usize, going: u64) -> u64
     requires { (lo ≤ r) × (r < 64) }
     ensures { result ≡ one_going kind s lo r going }
@@ -71,7 +71,7 @@ pub fn one_going(kind: u16, s: Status, lo: usize, r: usize, going: u64) -> u64
 }
 
 // The notices.
-#[tactic(auto, using(crate::proofs::Tests::tests), unfolding(crate::specs::Mirror::Down::one_sent, par::specs::Expr::join))]
+#[tactic(auto, unfolding(crate::specs::Mirror::Down::one_sent, par::specs::Expr::join))]
 pub fn one_sent(kind: u16, s: Status, gain: u64, sent: u64) -> u64
     ensures { result ≡ one_sent kind s gain sent }
 {
@@ -89,7 +89,7 @@ pub fn one_sent(kind: u16, s: Status, gain: u64, sent: u64) -> u64
 
 // ---- either and try, whose parts' statuses are s and t
 
-#[tactic(auto, using(crate::proofs::Tests::tests), unfolding(crate::specs::Mirror::Down::both_status))]
+#[tactic(auto, unfolding(crate::specs::Mirror::Down::both_status))]
 pub fn both_status(kind: u16, s: Status, t: Status) -> Status
     ensures { result ≡ both_status kind s t }
 {
@@ -130,7 +130,7 @@ pub fn both_active(v: Status, s: Status, t: Status, lo: usize, r: usize, active:
 }
 
 // The nodes whose lines count: a try whose first part completed leaves the second's out.
-#[tactic(auto, using(crate::proofs::Tests::tests), unfolding(crate::specs::Mirror::Down::both_counted, crate::specs::Mirror::Down::try_counted))]
+#[tactic(auto, unfolding(crate::specs::Mirror::Down::both_counted, crate::specs::Mirror::Down::try_counted))]
 pub fn both_counted(kind: u16, s: Status, x: usize, r: usize, counted: u64) -> u64
     requires { (x + 1 < r) × (r < 64) }
     ensures { result ≡ both_counted kind s x r counted }

@@ -32,7 +32,7 @@ pub struct Moved {
 }
 
 // met with node r, which is the number n, if its event is the one that came.
-#[tactic(auto, using(crate::proofs::Tests::tests), unfolding(crate::specs::Mirror::Masks::with))]
+#[tactic(auto, unfolding(crate::specs::Mirror::Masks::with))]
 fn met_with(n: u16, r: usize, event: u8, met: u64) -> u64
     requires { r < 64 }
     ensures { result ≡ cond (eqb (n / 256) event) (with met (one r)) met }

@@ -3,7 +3,7 @@ ghost use Rattle.std.specs.Prelude.{◌≡◌, ◌≤◌, ◌<◌};
 ghost use Rattle.play.specs.Mirror.Masks.{bit, one as single, less, below, span as spanned, clear as cleared, hit as holds};
 
 // Node r alone.
-#[tactic(auto, using(crate::proofs::Shifts::shifted), unfolding(crate::specs::Mirror::Masks::one))]
+#[tactic(auto, unfolding(crate::specs::Mirror::Masks::one))]
 pub fn one(r: usize) -> u64
     requires { r < 64 }
     ensures { result ≡ single r }
@@ -12,7 +12,7 @@ pub fn one(r: usize) -> u64
 }
 
 // The nodes below lo.
-#[tactic(auto, using(crate::proofs::Shifts::shifted), unfolding(crate::specs::Mirror::Masks::below))]
+#[tactic(auto, unfolding(crate::specs::Mirror::Masks::below))]
 fn low(lo: usize) -> u64
     requires { lo < 64 }
     ensures { result ≡ below lo }

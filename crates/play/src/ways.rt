@@ -19,7 +19,7 @@ pub enum Route {
 }
 
 // A node with two parts, in their places.
-#[tactic(auto, using(crate::proofs::Tests::tests), unfolding(crate::specs::Mirror::Down::pair_route))]
+#[tactic(auto, unfolding(crate::specs::Mirror::Down::pair_route))]
 fn pair_of(kind: u16, active: u64, met: u64, lo: usize, x: usize, r: usize) -> Route
     requires { (lo ≤ x) × (x + 1 < r) × (r < 64) }
     ensures { result ≡ pair_route kind (bit active r) (hit met lo x) (hit met (x + 1) (r - 1)) }
@@ -43,7 +43,7 @@ fn pair_of(kind: u16, active: u64, met: u64, lo: usize, x: usize, r: usize) -> R
 }
 
 // A node whose parts do not stand in their places is taken as silent: no rule that was written out holds one.
-#[tactic(auto, using(crate::proofs::Tests::tests), unfolding(crate::specs::Mirror::Down::route_of))]
+#[tactic(auto, unfolding(crate::specs::Mirror::Down::route_of))]
 pub fn route_of(kind: u16, active: u64, met: u64, lo: usize, x: usize, r: usize) -> Route
     requires { (lo ≤ r) × (r < 64) }
     ensures { result ≡ route_of kind active met lo x r }

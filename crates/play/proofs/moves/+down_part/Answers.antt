@@ -1,6 +1,6 @@
 -- `down` by the route that was told: its parts stand in their places, and each arm is what the mirror takes there. `part` by itself, where r is its
 -- only node.
-use Rattle.std.proofs.Common.{refl, sym, arith}
+use Rattle.std.proofs.Common.{refl, sym, arith, rules}
 use Rattle.par.specs.declared.Status.TheVariants.{Waiting}
 use Rattle.par.proofs.Tables.{status_of_byte}
 use Rattle.play.proofs.Words.{five, five_set}
@@ -32,7 +32,7 @@ down-part-t-requires t c =
 
 pub down-both_end-requires : goal.down-both_end-requires
 down-both_end-requires t c =
-    let p = parts_placed _ _ _ _ _ _ (sym c.in-Both.ensures) in ((omega arith, omega arith, omega arith), c.part-t.array_long)
+    let p = parts_placed _ _ _ _ _ _ (sym c.in-Both.ensures) in ((omega arith, omega arith, omega arith), search rules)
 
 pub down-part-s-requires-in-Left : goal.down-part-s-requires-in-Left
 down-part-s-requires-in-Left t c =
@@ -40,7 +40,7 @@ down-part-s-requires-in-Left t c =
 
 pub down-both_end-requires-in-Left : goal.down-both_end-requires-in-Left
 down-both_end-requires-in-Left t c =
-    let p = parts_placed _ _ _ _ _ _ (sym c.in-Left.ensures) in ((omega arith, omega arith, omega arith), c.part-s-in-Left.array_long)
+    let p = parts_placed _ _ _ _ _ _ (sym c.in-Left.ensures) in ((omega arith, omega arith, omega arith), search rules)
 
 pub down-part-t-requires-in-Right : goal.down-part-t-requires-in-Right
 down-part-t-requires-in-Right t c =
@@ -48,7 +48,7 @@ down-part-t-requires-in-Right t c =
 
 pub down-both_end-requires-in-Right : goal.down-both_end-requires-in-Right
 down-both_end-requires-in-Right t c =
-    let p = parts_placed _ _ _ _ _ _ (sym c.in-Right.ensures) in ((omega arith, omega arith, omega arith), c.part-t-in-Right.array_long)
+    let p = parts_placed _ _ _ _ _ _ (sym c.in-Right.ensures) in ((omega arith, omega arith, omega arith), search rules)
 
 -- ---- what they ensure
 
