@@ -1,6 +1,7 @@
 // What other languages call, as functions of this library: slices cross as a pointer and a length, statuses as their byte, structs by value. The crate
 // `meadwhistle_c` exports each under its name.
 #![tactic(auto)]
+
 ghost use Rattle.std.specs.Prelude.{◌≡◌};
 ghost use Rattle.engine.specs.Feed.{Fed};
 ghost use Rattle.engine.specs.History.{Call.opening, Back.numbered, ByTheBook};
@@ -33,12 +34,7 @@ pub struct Part {
 }
 
 // Answers a whole feed.
-pub fn meadwhistle_run(
-    rule: &[u8],
-    events: &[u8],
-    answers: &mut [u8],
-    place: usize,
-) -> Ran
+pub fn meadwhistle_run(rule: &[u8], events: &[u8], answers: &mut [u8], place: usize) -> Ran
     ensures { Fed rule.now events.now place answers.old result answers.new }
 {
     engine::run(rule, events, answers, place)

@@ -1,5 +1,6 @@
 // The exports: each calls the function of its name in the library `meadwhistle`, and has its clauses.
 #![tactic(auto)]
+
 ghost use Rattle.std.specs.Prelude.{◌≡◌};
 ghost use Rattle.engine.specs.Feed.{Fed};
 ghost use Rattle.engine.specs.History.{Call.opening, Back.numbered, ByTheBook};
@@ -15,7 +16,12 @@ use engine::{Desk, Ran};
 use meadwhistle::{FlatReply, Part};
 
 #[unsafe(no_mangle)]
-pub extern "C" fn meadwhistle_run(rule: &[u8], events: &[u8], answers: &mut [u8], place: usize) -> Ran
+pub extern "C" fn meadwhistle_run(
+    rule: &[u8],
+    events: &[u8],
+    answers: &mut [u8],
+    place: usize,
+) -> Ran
     ensures { Fed rule.now events.now place answers.old result answers.new }
 {
     meadwhistle::meadwhistle_run(rule, events, answers, place)

@@ -14,5 +14,7 @@ returns-then-number-ne0 c = let number = ap (λ (r : Ready). r.number) c.ready_o
 
 pub returns : goal.returns
 unfolding fresh_desk opened_of
-returns c = let number : rule_number c.args.rule.now ≡ 0 = sym (ap (λ (r : Ready). r.number) c.ready_of-ready.ensures ∙ ready_number c.args.rule.now) ∙ c.if-number-ne0.false in
+returns c =
+    let number : rule_number c.args.rule.now ≡ 0 = sym (ap (λ (r : Ready). r.number) c.ready_of-ready.ensures ∙ ready_number
+    c.args.rule.now) ∙ c.if-number-ne0.false in
     rw (c.ready_of-ready.ensures, eq-eqb (rule_number c.args.rule.now) 0 number, number)

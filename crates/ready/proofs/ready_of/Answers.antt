@@ -18,7 +18,8 @@ pub rule_size-requires : goal.rule_size-requires
 rule_size-requires c = records_ready _ c.read_expressions-reading.ensures.read c.if-number-ne0.false
 
 pub returns-then-rule_size-gt64 : goal.returns-then-rule_size-gt64
-returns-then-rule_size-gt64 c = refused_large _ c.read_expressions-reading.ensures.read c.if-number-ne0.false c.rule_size.ensures c.if-rule_size-gt64.true
+returns-then-rule_size-gt64 c =
+    refused_large _ c.read_expressions-reading.ensures.read c.if-number-ne0.false c.rule_size.ensures c.if-rule_size-gt64.true
 
 pub slice_bounds-at-end-2 : goal.slice_bounds-at-end-2
 slice_bounds-at-end-2 c = places_fit c.read_expressions-reading.ensures.read
@@ -30,18 +31,21 @@ pub overflow_sub-count : goal.overflow_sub-count
 overflow_sub-count c = (records_ready _ c.read_expressions-reading.ensures.read c.if-number-ne0.false).0.0
 
 pub write_out-n-requires : goal.write_out-n-requires
-write_out-n-requires c = write_room _ c.read_expressions-reading.ensures.read c.if-number-ne0.false c.rule_size.ensures c.if-rule_size-gt64.false
+write_out-n-requires c =
+    write_room _ c.read_expressions-reading.ensures.read c.if-number-ne0.false c.rule_size.ensures c.if-rule_size-gt64.false
 
 pub overflow_sub-n : goal.overflow_sub-n
 overflow_sub-n c = nodes_some _ c.read_expressions-reading.ensures.read c.if-number-ne0.false c.rule_size.ensures c.if-rule_size-gt64.false
     c.write_out-n.ensures
 
 pub prepare-start-requires : goal.prepare-start-requires
-prepare-start-requires c = prepare_asks _ c.read_expressions-reading.ensures.read c.if-number-ne0.false c.rule_size.ensures c.if-rule_size-gt64.false
+prepare-start-requires c =
+    prepare_asks _ c.read_expressions-reading.ensures.read c.if-number-ne0.false c.rule_size.ensures c.if-rule_size-gt64.false
     c.write_out-n.ensures
 
 pub overflow_sub-result : goal.overflow_sub-result
-overflow_sub-result c = nodes_some _ c.read_expressions-reading.ensures.read c.if-number-ne0.false c.rule_size.ensures c.if-rule_size-gt64.false
+overflow_sub-result c =
+    nodes_some _ c.read_expressions-reading.ensures.read c.if-number-ne0.false c.rule_size.ensures c.if-rule_size-gt64.false
     c.write_out-n.ensures
 
 pub returns : goal.returns

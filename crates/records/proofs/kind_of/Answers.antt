@@ -45,7 +45,11 @@ unfolding kind_of
 returns-in-16 c = rw c.in-16.is
 
 pub returns-in-9-to-15 : goal.returns-in-9-to-15
-returns-in-9-to-15 c = kind_reserved _ (omega arith) (omega arith) (omega arith) (omega arith) (omega arith) (omega arith) (omega arith) (omega arith) (omega arith)
+returns-in-9-to-15 c =
+    kind_reserved _ (omega arith) (omega arith) (omega arith) (omega arith) (omega arith) (omega arith) (omega arith) (omega arith)
+    (omega arith)
 
 pub returns-in-17-to-65535 : goal.returns-in-17-to-65535
-returns-in-17-to-65535 c = kind_reserved _ (omega arith) (omega arith) (omega arith) (omega arith) (omega arith) (omega arith) (omega arith) (omega arith) (omega arith)
+returns-in-17-to-65535 c =
+    kind_reserved _ (omega arith) (omega arith) (omega arith) (omega arith) (omega arith) (omega arith) (omega arith) (omega arith)
+    (omega arith)

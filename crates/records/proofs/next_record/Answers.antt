@@ -2,7 +2,8 @@
 use mathlib.Core.Path.{◌≡◌}
 use native.Mathlib.Omega.{arith}
 use Rattle.records.specs.Says.{wanted}
-use Rattle.records.specs.Says.{Stands.ended, Stands.too_many, Stands.no_header, Stands.not_listed, Stands.wrong_length, Stands.cut_short, Stands.whole}
+use Rattle.records.specs.Says.{Stands.ended, Stands.too_many, Stands.no_header, Stands.not_listed, Stands.wrong_length, Stands.cut_short}
+use Rattle.records.specs.Says.{Stands.whole}
 use Rattle.records.proofs.Says.{stands_next}
 use Rattle.records.proofs.next_record.Goals as goal
 

@@ -29,8 +29,9 @@ pub loop-i-smaller : goal.loop-i-smaller
 loop-i-smaller c = omega arith
 
 pub loop-i-preserved : goal.loop-i-preserved
-loop-i-preserved c = feeding_turn _ _ _ _ _ c.args.events.now c.args.place c.args.active c.args.answers.now c.loop-i.invariant c.requires.0.3 c.requires.1
-    c.loop-i-test.true (omega (arith, c.shared_slice_known-1.given c.loop-i.i))
+loop-i-preserved c =
+    feeding_turn _ _ _ _ _ c.args.events.now c.args.place c.args.active c.args.answers.now c.loop-i.invariant c.requires.0.3 c.requires.1
+    c.loop-i-test.true (omega (arith, c.type_inv.events c.loop-i.i))
     _ (rw c.met_in-met.ensures at c.answer-playing.ensures.0) _ (rw c.met_in-met.ensures at c.answer-playing.ensures.1)
 
 pub returns : goal.returns

@@ -17,8 +17,12 @@ size_of-size-requires c = let node = node_in c.args.file.now c.args.at.now in
 pub loop-j-preserved : goal.loop-j-preserved
 unfolding node_in
 loop-j-preserved c = let node = node_in c.args.file.now c.args.at.now in
-    let e : c.size_of-size.result ≡ size_from (λ p. get_or c.loop-j.sizes p 0) (node c.loop-j.j) = rw (c.size_of-size.ensures, c.node_at.ensures) in
-    (omega arith, sized_more node c.args.count c.requires.2 _ c.loop-j.sizes c.loop-j.j _ (omega arith) (omega arith) c.loop-j.invariant.1 e)
+    let e : c.size_of-size.result ≡ size_from (λ p. get_or c.loop-j.sizes p 0) (node c.loop-j.j) = rw
+    (c.size_of-size.ensures, c.node_at.ensures) in (
+      omega arith,
+      sized_more node c.args.count c.requires.2 _ c.loop-j.sizes c.loop-j.j _ (omega arith)
+          (omega arith) c.loop-j.invariant.1 e,
+    )
 
 pub returns : goal.returns
 returns c = let e : c.loop-j.j ≡ c.args.count = omega arith in

@@ -54,12 +54,14 @@ down-both_end-requires-in-Right t c =
 
 pub down-returns-in-Silent : goal.down-returns-in-Silent
 down-returns-in-Silent t c =
-    down_done _ _ _ _ c.args.words.now c.requires.0.0 c.first_of-x.ensures (sym c.in-Silent.ensures) _ _ (λ f h. (refl, five _ c.requires.1.2))
+    down_done _ _ _ _ c.args.words.now c.requires.0.0 c.first_of-x.ensures (sym c.in-Silent.ensures) _ _ (λ f h.
+    (refl, five _ c.requires.1.2))
 
 pub down-returns-in-First : goal.down-returns-in-First
 down-returns-in-First t c =
     let p = parts_placed _ _ _ _ _ _ (sym c.in-First.ensures) in
-    down_done _ _ _ _ c.args.words.now c.requires.0.0 c.first_of-x.ensures (sym c.in-First.ensures) _ _ (λ f h. c.part.ensures f (omega arith))
+    down_done _ _ _ _ c.args.words.now c.requires.0.0 c.first_of-x.ensures (sym c.in-First.ensures) _ _ (λ f h. c.part.ensures f
+    (omega arith))
 
 pub down-returns-in-Second : goal.down-returns-in-Second
 down-returns-in-Second t c =

@@ -6,7 +6,9 @@ use Rattle.ready.specs.Mirror.Fresh.{prepared, prepares}
 use Rattle.ready.proofs.fresh.prepare.Given as goal
 
 abbrev pub invariant-loop-r : goal.invariant-loop-r
-invariant-loop-r l = ((prepared l.fresh l.gain l.leaves l.repeats ≡ prepares l.nodes l.initial.gain l.r) × (l.r ≤ suc l.root)) × ((length l.fresh ≡ 64) × (length l.gain ≡ 64))
+invariant-loop-r l =
+    ((prepared l.fresh l.gain l.leaves l.repeats ≡ prepares l.nodes l.initial.gain l.r) × (l.r ≤ suc l.root)) × ((length l.fresh ≡ 64) ×
+    (length l.gain ≡ 64))
 
 abbrev pub decreases-loop-r : goal.decreases-loop-r
 decreases-loop-r l = suc l.root - l.r

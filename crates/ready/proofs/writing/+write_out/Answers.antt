@@ -26,7 +26,8 @@ write_out-n-requires-in-Repeat t c = let a = arm c.requires (sym c.in-Repeat.ens
 
 pub put_whole-requires-in-Repeat : goal.put_whole-requires-in-Repeat
 unfolding node_in
-put_whole-requires-in-Repeat t c = let a = arm c.requires (sym c.in-Repeat.ensures) in let p = a.asks.put c.write_out-n-in-Repeat.ensures in search rules
+put_whole-requires-in-Repeat t c =
+    let a = arm c.requires (sym c.in-Repeat.ensures) in let p = a.asks.put c.write_out-n-in-Repeat.ensures in search rules
 
 pub write_out-n-requires-in-Notify : goal.write_out-n-requires-in-Notify
 unfolding node_in
@@ -34,7 +35,8 @@ write_out-n-requires-in-Notify t c = let a = arm c.requires (sym c.in-Notify.ens
 
 pub put_whole-requires-in-Notify : goal.put_whole-requires-in-Notify
 unfolding node_in
-put_whole-requires-in-Notify t c = let a = arm c.requires (sym c.in-Notify.ensures) in let p = a.asks.put c.write_out-n-in-Notify.ensures in search rules
+put_whole-requires-in-Notify t c =
+    let a = arm c.requires (sym c.in-Notify.ensures) in let p = a.asks.put c.write_out-n-in-Notify.ensures in search rules
 
 pub write_out-n-requires-in-Either : goal.write_out-n-requires-in-Either
 unfolding node_in
@@ -42,11 +44,14 @@ write_out-n-requires-in-Either t c = let a = arm c.requires (sym c.in-Either.ens
 
 pub write_out-m-requires : goal.write_out-m-requires
 unfolding node_in
-write_out-m-requires t c = let a = arm c.requires (sym c.in-Either.ensures) in let b = a.asks.1.part c.write_out-n-in-Either.ensures in (omega arith, b.room)
+write_out-m-requires t c =
+    let a = arm c.requires (sym c.in-Either.ensures) in let b = a.asks.1.part c.write_out-n-in-Either.ensures in (omega arith, b.room)
 
 pub put_whole-requires-in-Either : goal.put_whole-requires-in-Either
 unfolding node_in
-put_whole-requires-in-Either t c = let a = arm c.requires (sym c.in-Either.ensures) in let p = a.asks.0.put c.write_out-n-in-Either.ensures in let b = a.asks.1.part c.write_out-n-in-Either.ensures in let s = b.put c.write_out-m.ensures in search rules
+put_whole-requires-in-Either t c =
+    let a = arm c.requires (sym c.in-Either.ensures) in let p = a.asks.0.put c.write_out-n-in-Either.ensures in
+    let b = a.asks.1.part c.write_out-n-in-Either.ensures in let s = b.put c.write_out-m.ensures in search rules
 
 pub write_out-n-requires-in-Then : goal.write_out-n-requires-in-Then
 unfolding node_in
@@ -54,11 +59,14 @@ write_out-n-requires-in-Then t c = let a = arm c.requires (sym c.in-Then.ensures
 
 pub write_out-m-requires-in-Then : goal.write_out-m-requires-in-Then
 unfolding node_in
-write_out-m-requires-in-Then t c = let a = arm c.requires (sym c.in-Then.ensures) in let b = a.asks.1.part c.write_out-n-in-Then.ensures in (omega arith, b.room)
+write_out-m-requires-in-Then t c =
+    let a = arm c.requires (sym c.in-Then.ensures) in let b = a.asks.1.part c.write_out-n-in-Then.ensures in (omega arith, b.room)
 
 pub put_whole-requires-in-Then : goal.put_whole-requires-in-Then
 unfolding node_in
-put_whole-requires-in-Then t c = let a = arm c.requires (sym c.in-Then.ensures) in let p = a.asks.0.put c.write_out-n-in-Then.ensures in let b = a.asks.1.part c.write_out-n-in-Then.ensures in let s = b.put c.write_out-m-in-Then.ensures in search rules
+put_whole-requires-in-Then t c =
+    let a = arm c.requires (sym c.in-Then.ensures) in let p = a.asks.0.put c.write_out-n-in-Then.ensures in
+    let b = a.asks.1.part c.write_out-n-in-Then.ensures in let s = b.put c.write_out-m-in-Then.ensures in search rules
 
 pub write_out-n-requires-in-Try : goal.write_out-n-requires-in-Try
 unfolding node_in
@@ -66,11 +74,14 @@ write_out-n-requires-in-Try t c = let a = arm c.requires (sym c.in-Try.ensures) 
 
 pub write_out-m-requires-in-Try : goal.write_out-m-requires-in-Try
 unfolding node_in
-write_out-m-requires-in-Try t c = let a = arm c.requires (sym c.in-Try.ensures) in let b = a.asks.1.part c.write_out-n-in-Try.ensures in (omega arith, b.room)
+write_out-m-requires-in-Try t c =
+    let a = arm c.requires (sym c.in-Try.ensures) in let b = a.asks.1.part c.write_out-n-in-Try.ensures in (omega arith, b.room)
 
 pub put_whole-requires-in-Try : goal.put_whole-requires-in-Try
 unfolding node_in
-put_whole-requires-in-Try t c = let a = arm c.requires (sym c.in-Try.ensures) in let p = a.asks.0.put c.write_out-n-in-Try.ensures in let b = a.asks.1.part c.write_out-n-in-Try.ensures in let s = b.put c.write_out-m-in-Try.ensures in search rules
+put_whole-requires-in-Try t c =
+    let a = arm c.requires (sym c.in-Try.ensures) in let p = a.asks.0.put c.write_out-n-in-Try.ensures in
+    let b = a.asks.1.part c.write_out-n-in-Try.ensures in let s = b.put c.write_out-m-in-Try.ensures in search rules
 
 pub returns-in-Silent : goal.returns-in-Silent
 unfolding node_in
@@ -82,24 +93,38 @@ returns-in-Event t c = (arm c.requires (sym c.in-Event.ensures)).done (λ f h. c
 
 pub returns-in-Not : goal.returns-in-Not
 unfolding node_in
-returns-in-Not t c = let a = arm c.requires (sym c.in-Not.ensures) in a.done (λ f h. rw (← c.write_out-n.ensures f (omega arith)) c.put_whole.ensures)
+returns-in-Not t c =
+    let a = arm c.requires (sym c.in-Not.ensures) in a.done (λ f h. rw (← c.write_out-n.ensures f (omega arith)) c.put_whole.ensures)
 
 pub returns-in-Repeat : goal.returns-in-Repeat
 unfolding node_in
-returns-in-Repeat t c = let a = arm c.requires (sym c.in-Repeat.ensures) in a.done (λ f h. rw (← c.write_out-n-in-Repeat.ensures f (omega arith)) c.put_whole-in-Repeat.ensures)
+returns-in-Repeat t c =
+    let a = arm c.requires (sym c.in-Repeat.ensures) in a.done (λ f h. rw (← c.write_out-n-in-Repeat.ensures f
+    (omega arith)) c.put_whole-in-Repeat.ensures)
 
 pub returns-in-Notify : goal.returns-in-Notify
 unfolding node_in
-returns-in-Notify t c = let a = arm c.requires (sym c.in-Notify.ensures) in a.done (λ f h. rw (← c.write_out-n-in-Notify.ensures f (omega arith), ← c.wide.ensures) c.put_whole-in-Notify.ensures)
+returns-in-Notify t c =
+    let a = arm c.requires (sym c.in-Notify.ensures) in a.done (λ f h. rw (
+      ← c.write_out-n-in-Notify.ensures f
+          (omega arith),
+      ← c.wide.ensures,
+    ) c.put_whole-in-Notify.ensures)
 
 pub returns-in-Either : goal.returns-in-Either
 unfolding node_in
-returns-in-Either t c = let a = arm c.requires (sym c.in-Either.ensures) in let b = a.asks.1.part c.write_out-n-in-Either.ensures in a.done (λ f h. rw (← c.write_out-n-in-Either.ensures f (omega arith), ← c.write_out-m.ensures f (omega arith)) c.put_whole-in-Either.ensures)
+returns-in-Either t c =
+    let a = arm c.requires (sym c.in-Either.ensures) in let b = a.asks.1.part c.write_out-n-in-Either.ensures in a.done (λ f h. rw
+    (← c.write_out-n-in-Either.ensures f (omega arith), ← c.write_out-m.ensures f (omega arith)) c.put_whole-in-Either.ensures)
 
 pub returns-in-Then : goal.returns-in-Then
 unfolding node_in
-returns-in-Then t c = let a = arm c.requires (sym c.in-Then.ensures) in let b = a.asks.1.part c.write_out-n-in-Then.ensures in a.done (λ f h. rw (← c.write_out-n-in-Then.ensures f (omega arith), ← c.write_out-m-in-Then.ensures f (omega arith)) c.put_whole-in-Then.ensures)
+returns-in-Then t c =
+    let a = arm c.requires (sym c.in-Then.ensures) in let b = a.asks.1.part c.write_out-n-in-Then.ensures in a.done (λ f h. rw
+    (← c.write_out-n-in-Then.ensures f (omega arith), ← c.write_out-m-in-Then.ensures f (omega arith)) c.put_whole-in-Then.ensures)
 
 pub returns-in-Try : goal.returns-in-Try
 unfolding node_in
-returns-in-Try t c = let a = arm c.requires (sym c.in-Try.ensures) in let b = a.asks.1.part c.write_out-n-in-Try.ensures in a.done (λ f h. rw (← c.write_out-n-in-Try.ensures f (omega arith), ← c.write_out-m-in-Try.ensures f (omega arith)) c.put_whole-in-Try.ensures)
+returns-in-Try t c =
+    let a = arm c.requires (sym c.in-Try.ensures) in let b = a.asks.1.part c.write_out-n-in-Try.ensures in a.done (λ f h. rw
+    (← c.write_out-n-in-Try.ensures f (omega arith), ← c.write_out-m-in-Try.ensures f (omega arith)) c.put_whole-in-Try.ensures)
