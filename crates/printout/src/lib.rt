@@ -1,4 +1,6 @@
 // The printer's text: `rule ` and the size, then a line for each event; or only `refused ` and the number.
+#![tactic(auto)]
+
 pub mod text; // text.rt: words, numbers and lines
 
 ghost use Rattle.std.specs.Prelude.{◌≡◌, List, ◌*◌, ◌<◌, ◌≤◌, length, drop};
