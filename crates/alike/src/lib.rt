@@ -1,4 +1,6 @@
 // The judge of a proposal that two rules behave alike: its number, and the faulty record shown in place.
+#![tactic(auto)]
+
 pub mod columns; // columns.rt: the records and the pairs as columns, and the look-up in them
 pub mod plans; // plans.rt: one record's answer from its parts' answers
 pub mod list; // list.rt: one event's list, an answer for each record
@@ -11,7 +13,7 @@ ghost use Rattle.alike.specs.Ready.{Ready};
 use verdict::Fault;
 
 // The number, whether the faulty record is in the pair file, and its place there.
-#[derive(Drop)]
+#[derive(Clone, Copy)]
 pub struct Judged {
     pub number: u8,
     pub in_pairs: bool,

@@ -6,7 +6,7 @@ use par::{Notices, Status};
 use records::Key;
 
 // One answer: notices, status, and the remainder's record number; 1,024 where the remainder is not in the file.
-#[derive(Drop)]
+#[derive(Clone, Copy)]
 pub struct Part {
     pub notices: Notices,
     pub status: Status,
@@ -14,14 +14,14 @@ pub struct Part {
 }
 
 // The remainder: silent, the record of that number, or the record of that kind and body.
-#[derive(Drop)]
+#[derive(Clone, Copy)]
 pub enum Rest {
     Still,
     Old(usize),
     New(Key),
 }
 
-#[derive(Drop)]
+#[derive(Clone, Copy)]
 pub struct Plan {
     pub notices: Notices,
     pub status: Status,

@@ -13,7 +13,7 @@ use par::Notices;
 use records::Key;
 
 // The first fault: its number and the pair that has it; 0 and the number of the pairs where there is none.
-#[derive(Drop)]
+#[derive(Clone, Copy)]
 pub struct Fault {
     pub number: u8,
     pub pair: usize,

@@ -1,0 +1,32 @@
+-- `alike::plans::either_rest` meets its contract: in each arm the statuses are known, and the plan computes.
+use borrow.Author.Rules.{rules}
+use Rattle.alike.specs.Plans.{plan_either}
+use Rattle.alike.proofs.plans.either_rest.Goals as goal
+
+pub returns-in-Waiting-t : goal.returns-in-Waiting-t
+unfolding plan_either
+returns-in-Waiting-t c = rw (c.new_rest.ensures, c.in-Waiting.is, c.in-Waiting-t.is)
+
+pub returns-in-Success-t : goal.returns-in-Success-t
+unfolding plan_either
+returns-in-Success-t c = rw (c.in-Waiting.is, c.in-Success-t.is)
+
+pub returns-in-Failure-t : goal.returns-in-Failure-t
+unfolding plan_either
+returns-in-Failure-t c = rw (c.in-Waiting.is, c.in-Failure-t.is)
+
+pub returns-in-Success : goal.returns-in-Success
+unfolding plan_either
+returns-in-Success c = rw c.in-Success.is
+
+pub returns-in-Waiting-t-2 : goal.returns-in-Waiting-t-2
+unfolding plan_either
+returns-in-Waiting-t-2 c = rw (c.in-Failure.is, c.in-Waiting-t-2.is)
+
+pub returns-in-Success-t-2 : goal.returns-in-Success-t-2
+unfolding plan_either
+returns-in-Success-t-2 c = rw (c.in-Failure.is, c.in-Success-t-2.is)
+
+pub returns-in-Failure-t-2 : goal.returns-in-Failure-t-2
+unfolding plan_either
+returns-in-Failure-t-2 c = rw (c.in-Failure.is, c.in-Failure-t-2.is)

@@ -1,0 +1,16 @@
+-- `alike::plans::plan_next` meets its contract: in each arm the status is known, and the plan computes.
+use borrow.Author.Rules.{rules}
+use Rattle.alike.specs.Plans.{plan_next}
+use Rattle.alike.proofs.plans.plan_next.Goals as goal
+
+pub returns-in-Waiting : goal.returns-in-Waiting
+unfolding plan_next
+returns-in-Waiting c = rw (c.new_rest.ensures, c.in-Waiting.is)
+
+pub returns-in-Success : goal.returns-in-Success
+unfolding plan_next
+returns-in-Success c = rw c.in-Success.is
+
+pub returns-in-Failure : goal.returns-in-Failure
+unfolding plan_next
+returns-in-Failure c = rw c.in-Failure.is
