@@ -1,6 +1,5 @@
 -- `alike::judge` meets its contract.
 use mathlib.Core.Path.{ap}
-use borrow.Author.Rules.{rules}
 use Rattle.alike.proofs.judge.Goals as goal
 
 pub returns : goal.returns

@@ -2,7 +2,6 @@
 use mathlib.Core.Path.{◌∙◌}
 use native.Mathlib.Omega.{arith}
 use Rattle.alike.proofs.Readying.{count_few, listed_few, records_ready, pairs_ready, within_ready, closing_ready}
-use borrow.Author.Rules.{rules}
 use Rattle.alike.proofs.settle.Goals as goal
 
 pub decode-requires : goal.decode-requires
@@ -15,9 +14,9 @@ split-requires c = let n = listed_few c.requires in
 
 pub first_fault-requires : goal.first_fault-requires
 first_fault-requires c = record {
-      records = records_ready c.requires c.decode.ensures (λ i. omega (arith, c.type_inv.expressions i));
-      pairs = (pairs_ready c.requires c.split.ensures c.sort-entries.ensures, within_ready c.requires c.split.ensures);
-    }
+  records = records_ready c.requires c.decode.ensures (λ i. omega (arith, c.type_inv.expressions i));
+  pairs = (pairs_ready c.requires c.split.ensures c.sort-entries.ensures, within_ready c.requires c.split.ensures);
+}
 
 pub returns : goal.returns
 returns c = c.first_fault.ensures ∙ closing_ready c.requires c.split.ensures c.decode.ensures

@@ -1,7 +1,6 @@
 -- `alike::shown` meets its contract.
 use mathlib.Core.Path.{◌∙◌}
 use Rattle.alike.proofs.Tails.{shown_pairs, shown_expressions}
-use borrow.Author.Rules.{rules}
 use Rattle.alike.proofs.shown.Goals as goal
 
 pub returns-then-v : goal.returns-then-v

@@ -2,7 +2,6 @@
 use native.Mathlib.Omega.{arith}
 use Rattle.files.proofs.Readings.{reading_pairs_within}
 use Rattle.alike.proofs.Readying.{ready, refused_first, refused_second, closed_pair, closed_all}
-use borrow.Author.Rules.{rules}
 use Rattle.alike.proofs.verdict_of.Goals as goal
 
 pub returns-then-e-ne0 : goal.returns-then-e-ne0

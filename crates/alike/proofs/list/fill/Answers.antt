@@ -1,9 +1,6 @@
 -- `alike::list::fill` meets its contract. The loop's invariant is `Filling`, and its measure the number of entries that are left.
-use Prim.Native.Nat.{◌-◌}
 use native.Mathlib.Omega.{arith}
-use borrow.Author.Rules.{rules}
-use Rattle.alike.specs.Columns.{expressions}
-use Rattle.alike.proofs.Filling.{Filling, filling_start, filling_level, filling_turn, filled_whole}
+use Rattle.alike.proofs.Filling.{filling_start, filling_level, filling_turn, filled_whole}
 use Rattle.alike.proofs.list.fill.Goals as goal
 
 pub loop-r-init : goal.loop-r-init

@@ -1,5 +1,4 @@
 -- `alike::list::look_up` meets its contract: what the look-up by halving tells.
-use borrow.Author.Rules.{rules}
 use mathlib.Core.Path.{refl}
 use mathlib.Core.Logic.{inl, inr}
 use Rattle.files.proofs.Halving.{here_has, gap_none}

@@ -1,5 +1,4 @@
 -- `alike::list::part_at` meets its contract.
-use borrow.Author.Rules.{rules}
 use Rattle.alike.specs.List.{part_at}
 use Rattle.alike.proofs.list.part_at.Goals as goal
 

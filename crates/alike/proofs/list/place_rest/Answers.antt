@@ -1,5 +1,4 @@
 -- `alike::list::place_rest` meets its contract.
-use borrow.Author.Rules.{rules}
 use mathlib.Core.Path.{refl}
 use Rattle.alike.proofs.list.place_rest.Goals as goal
 

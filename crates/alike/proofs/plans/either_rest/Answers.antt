@@ -1,5 +1,4 @@
 -- `alike::plans::either_rest` meets its contract: in each arm the statuses are known, and the plan computes.
-use borrow.Author.Rules.{rules}
 use Rattle.alike.specs.Plans.{plan_either}
 use Rattle.alike.proofs.plans.either_rest.Goals as goal
 

@@ -1,5 +1,4 @@
 -- `alike::plans::plan_either` meets its contract.
-use borrow.Author.Rules.{rules}
 use Rattle.par.specs.Expr.{join}
 use Rattle.alike.specs.Plans.{plan_either}
 use Rattle.alike.proofs.plans.plan_either.Goals as goal

@@ -1,5 +1,4 @@
 -- `alike::plans::plan_next` meets its contract: in each arm the status is known, and the plan computes.
-use borrow.Author.Rules.{rules}
 use Rattle.alike.specs.Plans.{plan_next}
 use Rattle.alike.proofs.plans.plan_next.Goals as goal
 

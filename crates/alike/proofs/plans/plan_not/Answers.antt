@@ -6,7 +6,7 @@ use Rattle.alike.proofs.plans.plan_not.Goals.{in-Waiting, in-Success, in-Failure
 pub returns : goal.returns
 unfolding plan_not
 returns c = elim c.match-s.branch [
-      in-Waiting w ↦ rw (w.rest-is, w.new_rest-rest.ensures, c.opposite.ensures, w.in-Waiting.is)
-    | in-Success w ↦ rw (w.rest-is, c.opposite.ensures, w.in-Success.is)
-    | in-Failure w ↦ rw (w.rest-is, c.opposite.ensures, w.in-Failure.is)
-    ]
+  | in-Waiting w ↦ rw (w.rest-is, w.new_rest-rest.ensures, c.opposite.ensures, w.in-Waiting.is)
+  | in-Success w ↦ rw (w.rest-is, c.opposite.ensures, w.in-Success.is)
+  | in-Failure w ↦ rw (w.rest-is, c.opposite.ensures, w.in-Failure.is)
+]

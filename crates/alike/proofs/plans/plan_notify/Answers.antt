@@ -1,5 +1,4 @@
 -- `alike::plans::plan_notify` meets its contract: in each arm the status is known, and the plan computes.
-use borrow.Author.Rules.{rules}
 use Rattle.par.specs.Expr.{join}
 use Rattle.alike.specs.Plans.{plan_notify}
 use Rattle.alike.proofs.plans.plan_notify.Goals as goal

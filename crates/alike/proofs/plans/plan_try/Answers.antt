@@ -1,5 +1,4 @@
 -- `alike::plans::plan_try` meets its contract.
-use borrow.Author.Rules.{rules}
 use Rattle.par.specs.Expr.{join}
 use Rattle.alike.specs.Plans.{plan_try}
 use Rattle.alike.proofs.plans.plan_try.Goals as goal

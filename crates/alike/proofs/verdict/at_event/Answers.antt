@@ -1,12 +1,8 @@
 -- `alike::verdict::at_event` meets its contract: a quiet event is answered as an earlier one; else the list is what the figures give, and its
 -- first fault brings the verdict on.
-use mathlib.Core.Path.{◌≡◌}
-use mathlib.Core.Bool.{false}
-use borrow.Author.Tests.{not-true}
 use Rattle.alike.proofs.Settling.{settled_inside}
 use Rattle.alike.proofs.Quiet.{quiet_skip}
 use Rattle.alike.proofs.Scanning.{entries_level, scanned_settled}
-use borrow.Author.Rules.{rules}
 use Rattle.alike.proofs.verdict.at_event.Goals as goal
 
 pub returns-then-quiet : goal.returns-then-quiet
@@ -14,9 +10,9 @@ returns-then-quiet c = quiet_skip c.requires.records.0.held c.requires.pairs.1 (
 
 pub scan-requires : goal.scan-requires
 scan-requires c = record {
-      pairs = (c.requires.pairs.0, settled_inside c.requires.standing);
-      entries = entries_level c.fill.ensures.1 c.requires.pairs.1;
-    }
+  pairs = (c.requires.pairs.0, settled_inside c.requires.standing);
+  entries = entries_level c.fill.ensures.1 c.requires.pairs.1;
+}
 
 pub returns : goal.returns
 returns c = scanned_settled _ _ _ c.requires.records.0.held.few c.requires.pairs.1 c.fill.ensures.0 c.requires.standing (settled_inside c.requires.standing) c.scan.ensures

@@ -5,7 +5,6 @@ use Rattle.par.specs.Status.{status_byte}
 use Rattle.alike.specs.Settled.{PartFault.notices_apart, PartFault.statuses_apart, PartFault.one_missing, PartFault.unlisted, PartFault.all_met}
 use Rattle.alike.proofs.Faults.{status_one}
 use Rattle.alike.proofs.Scanning.{here_listed, gap_unlisted}
-use borrow.Author.Rules.{rules}
 use Rattle.alike.proofs.verdict.fault_between.Goals as goal
 
 pub returns-then-p-q : goal.returns-then-p-q

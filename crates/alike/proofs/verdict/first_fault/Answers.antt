@@ -1,10 +1,8 @@
 -- `alike::verdict::first_fault` meets its contract: before each event the verdict on the events before it stands.
 use mathlib.Core.Path.{◌≡◌, refl}
-use Prim.Native.Nat.{◌≤◌, ◌-◌}
 use native.Mathlib.Omega.{arith}
 use borrow.Author.Rules.{rules}
-use lib.ListN.{length}
-use Rattle.alike.specs.Settled.{Standing, Quiet, Quiet.not_yet}
+use Rattle.alike.specs.Settled.{Quiet.not_yet}
 use Rattle.alike.proofs.Settling.{settled_none, settled_early}
 use Rattle.alike.proofs.Quiet.{quiet_more}
 use Rattle.alike.proofs.Scanning.{standing_first}
@@ -18,11 +16,11 @@ returns-then-best-eq0 c = standing_first c.requires.records.held c.requires.pair
 
 pub at_event-best-requires : goal.at_event-best-requires
 at_event-best-requires c = record {
-      records = (c.requires.records, record { notices_long = omega arith; statuses_long = omega arith; remains_long = omega arith });
-      pairs = c.requires.pairs;
-      named = (c.named-known.ensures, c.loop-event.invariant.4);
-      standing = c.loop-event.invariant.5;
-    }
+  records = (c.requires.records, record { notices_long = omega arith; statuses_long = omega arith; remains_long = omega arith });
+  pairs = c.requires.pairs;
+  named = (c.named-known.ensures, c.loop-event.invariant.4);
+  standing = c.loop-event.invariant.5;
+}
 
 pub loop-event-preserved : goal.loop-event-preserved
 loop-event-preserved c = (

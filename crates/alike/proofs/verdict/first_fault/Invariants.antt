@@ -1,13 +1,8 @@
 -- `alike::verdict::first_fault` meets its contract: before each event the verdict on the events before it stands.
-use mathlib.Core.Path.{◌≡◌, refl}
+use mathlib.Core.Path.{◌≡◌}
 use Prim.Native.Nat.{◌≤◌, ◌-◌}
-use native.Mathlib.Omega.{arith}
-use borrow.Author.Rules.{rules}
 use lib.ListN.{length}
-use Rattle.alike.specs.Settled.{Standing, Quiet, Quiet.not_yet}
-use Rattle.alike.proofs.Settling.{settled_none, settled_early}
-use Rattle.alike.proofs.Quiet.{quiet_more}
-use Rattle.alike.proofs.Scanning.{standing_first}
+use Rattle.alike.specs.Settled.{Standing, Quiet}
 use Rattle.alike.proofs.verdict.first_fault.Given as goal
 
 abbrev pub invariant-loop-event : goal.invariant-loop-event

@@ -1,7 +1,6 @@
 -- `alike::verdict::named` meets its contract: what the look-up tells.
 use Rattle.files.proofs.Halving.{here_has, gap_none}
 use Rattle.alike.specs.Settled.{Named.named, Named.unnamed}
-use borrow.Author.Rules.{rules}
 use Rattle.alike.proofs.verdict.named.Goals as goal
 
 pub returns-in-Here : goal.returns-in-Here

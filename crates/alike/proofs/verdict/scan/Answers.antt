@@ -1,9 +1,8 @@
 -- `alike::verdict::scan` meets its contract: the pairs passed meet every closing condition on this event.
-use Prim.Native.Nat.{ℕ, ◌≤◌, ◌<◌, ◌-◌}
 use native.Mathlib.Omega.{arith}
 use borrow.Author.Count.{below_more}
 use borrow.Author.Rules.{rules}
-use Rattle.alike.specs.Settled.{RowPart, Scanned.as_before, Scanned.better}
+use Rattle.alike.specs.Settled.{Scanned.as_before, Scanned.better}
 use Rattle.alike.proofs.verdict.scan.Goals as goal
 
 pub loop-i-init : goal.loop-i-init

@@ -1,9 +1,6 @@
 -- `alike::verdict::scan` meets its contract: the pairs passed meet every closing condition on this event.
 use Prim.Native.Nat.{ℕ, ◌≤◌, ◌<◌, ◌-◌}
-use native.Mathlib.Omega.{arith}
-use borrow.Author.Count.{below_more}
-use borrow.Author.Rules.{rules}
-use Rattle.alike.specs.Settled.{RowPart, Scanned.as_before, Scanned.better}
+use Rattle.alike.specs.Settled.{RowPart}
 use Rattle.alike.proofs.verdict.scan.Given as goal
 
 abbrev pub invariant-loop-i : goal.invariant-loop-i
