@@ -5,6 +5,7 @@ use mathlib.Core.Logic.{inl, inr}
 use mathlib.Core.List.{List}
 use native.Mathlib.Omega.{arith}
 use Rattle.par.specs.Expr.{Expr}
+use Rattle.par.specs.Status.{status_byte}
 use Rattle.par.specs.Step.{status, notices}
 use Rattle.par.proofs.Records.{one_record}
 use Rattle.records.specs.declared.Key.{Key}
@@ -21,7 +22,7 @@ use Rattle.alike.specs.Settled.{PartFault, PartFault.notices_apart, PartFault.st
 use Rattle.alike.specs.Settled.{PartFault.unlisted, PartFault.all_met}
 use Rattle.alike.specs.Verdict.{first_fault}
 use Rattle.alike.proofs.Rows.{row_x, row_y}
-use Rattle.alike.proofs.Faults.{Met, placed_absent, placed_stands}
+use Rattle.alike.proofs.Faults.{Met, status_one, placed_absent, placed_stands}
 use Rattle.alike.proofs.Settling.{met_fault, settled_same, settled_fault, first_settled, settled_one}
 
 -- ---- the look-up of a pair
@@ -36,6 +37,12 @@ module _ {ks ls rs ix : List ℕ} {m entries : ℕ} (w : Pairs ks ls rs ix m ent
   pub gap_unlisted : {g : ℕ} → Located (key_at ks ls rs) m ix entries (listed_key p q) (Gap g) → ListedRow (row ls) (row rs) m p q → ⊥
   unfolding key_at
   gap_unlisted l (i, h, e, f) = gap_none l i h (rw (w.marked i h, e, f))
+
+-- ---- the second of two entries whose remainder is not in the file
+
+pub right_missing : {Listed : ℕ → ℕ → Type 0} {p q : Part} → p.notices ≡ q.notices → status_byte p.status ≡ status_byte q.status
+    → q.remains ≡ 1024 → PartFault Listed p q 12
+right_missing h e z = one_missing h (status_one _ _ e) (inr z)
 
 -- ---- two entries that are what the figures give
 

@@ -20,6 +20,7 @@ pub struct Fault {
 }
 
 // The first closing condition that two answers fail; 0 where they meet all.
+#[tactic(auto, using(crate::proofs::Scanning::right_missing))]
 fn fault_between(
     marks: &[u8],
     lefts: &[usize],
