@@ -1,9 +1,17 @@
 // Reads stored files and prints what each reading found: for each case an expression file, then a pair file over its records.
 // A stored file is four bytes of length, little-endian, and then its bytes.
-ghost use Rattle.std.specs.Prelude.{◌+◌, ◌≤◌, ◌<◌, min, length};
+#![tactic(auto)]
+
+ghost use Rattle.std.specs.Prelude.{◌+◌, ◌≤◌, ◌<◌, min, length, IfOk};
+
+use std::io;
+use std::io::{BufWriter, Read, Write};
+
+// The most of standard input that is read.
+const INPUT_LIMIT: u64 = 524288;
 
 // Where a stored file begins and ends in the input.
-#[derive(Drop)]
+#[derive(Clone, Copy)]
 struct Extent {
     start: usize,
     end: usize,
@@ -31,36 +39,36 @@ fn extent_at(input: &[u8], at: usize) -> Extent
     }
 }
 
-fn print_number(n: u64) {
-    io::write_all(1, b" ");
-    io::print_decimal(1, n);
+fn print_number(out: &mut impl Write, n: u64) -> io::Result<()> {
+    write!(out, " {n}")
 }
 
-fn print_reading(number: u8, place: usize, count: usize) {
-    print_number(number as u64);
-    print_number(place as u64);
-    print_number(count as u64);
+fn print_reading(out: &mut impl Write, number: u8, place: usize, count: usize) -> io::Result<()> {
+    print_number(out, number as u64)?;
+    print_number(out, place as u64)?;
+    print_number(out, count as u64)
 }
 
 // Prints one case's readings.
-fn print_case(expressions: &[u8], pairs: &[u8]) {
+fn print_case(out: &mut impl Write, expressions: &[u8], pairs: &[u8]) -> io::Result<()> {
     let rule = files::rule_of(expressions);
-    io::write_all(1, b"rule");
-    print_reading(rule.number, rule.place, rule.count);
-    print_number(rule.size as u64);
-    io::write_all(1, b"\n");
+    write!(out, "rule")?;
+    print_reading(out, rule.number, rule.place, rule.count)?;
+    print_number(out, rule.size as u64)?;
+    writeln!(out)?;
     if rule.number == 0 {
         let reading = files::pairs_of(pairs, rule.count);
-        io::write_all(1, b"pairs");
-        print_reading(reading.number, reading.place, reading.count);
-        io::write_all(1, b"\n");
+        write!(out, "pairs")?;
+        print_reading(out, reading.number, reading.place, reading.count)?;
+        writeln!(out)?;
     }
+    Ok(())
 }
 
 // The case stored at a place; where the next begins.
-fn case_at(input: &[u8], at: usize) -> usize
+fn case_at(out: &mut impl Write, input: &[u8], at: usize) -> io::Result<usize>
     requires { at < length input.now }
-    ensures { (at < result) × (result ≤ length input.now) }
+    ensures { IfOk result (λ next. (at < next) × (next ≤ length input.now)) }
 {
     let a = extent_at(input, at);
     let start = a.start;
@@ -68,19 +76,23 @@ fn case_at(input: &[u8], at: usize) -> usize
     let b = extent_at(input, end);
     let from = b.start;
     let to = b.end;
-    print_case(&input[start..end], &input[from..to]);
-    to
+    print_case(out, &input[start..end], &input[from..to])?;
+    Ok(to)
 }
 
-fn print_all(input: &[u8]) {
+fn print_all(out: &mut impl Write, input: &[u8]) -> io::Result<()> {
     let mut at = 0;
     while at < input.len() {
-        at = case_at(input, at);
+        at = case_at(out, input, at)?;
     }
+    Ok(())
 }
 
-fn main() {
-    let mut input = [0u8; 524288];
-    let n = io::read_full(0, &mut input);
-    print_all(&input[..n]);
+fn main(rt: HostRuntime) -> io::Result<()> {
+    let alloc = rt.alloc();
+    let mut input = Vec::new(alloc);
+    rt.stdin().take(INPUT_LIMIT).read_to_end(&mut input)?;
+    let mut out = BufWriter::new(alloc, io::writer(&rt))?;
+    print_all(&mut out, &input)?;
+    out.flush()
 }
