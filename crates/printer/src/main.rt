@@ -1,10 +1,17 @@
 // Prints the text for standard input. One byte more than 8,192 is read, so that 17 is known; no text is longer than the output.
-use libc::{STDIN_FILENO, STDOUT_FILENO};
+#![tactic(auto)]
 
-fn main() {
-    let mut input = [0u8; 8193];
-    let mut output = [0u8; 140000];
-    let n = io::read_full(STDIN_FILENO, &mut input);
-    let written = printout::print(&input[..n], &mut output);
-    io::write_all(STDOUT_FILENO, &output[..written]);
+use std::io;
+use std::io::{Read, Write};
+
+// The most of standard input that is read.
+const INPUT_LIMIT: u64 = 8193;
+
+fn main(rt: HostRuntime) -> io::Result<()> {
+    let alloc = rt.alloc();
+    let mut input = Vec::new(alloc);
+    rt.stdin().take(INPUT_LIMIT).read_to_end(&mut input)?;
+    let mut output = vec![in alloc; 0u8; 140000]?;
+    let written = printout::print(&input, &mut output);
+    rt.stdout().write_all(&output[..written])
 }
