@@ -6,9 +6,6 @@ use Rattle.alike.proofs.list.fill.Goals as goal
 pub loop-r-init : goal.loop-r-init
 loop-r-init c = filling_start _ _ _ _ _ _
 
-pub plan_at-plan-requires : goal.plan_at-plan-requires
-plan_at-plan-requires c = (c.requires.0, filling_level c.requires.3 c.loop-r.invariant, omega arith)
-
 pub loop-r-preserved : goal.loop-r-preserved
 loop-r-preserved c = filling_turn c.place_rest-at.result c.requires.0 c.requires.3 c.loop-r.invariant (omega arith)
     c.look_up-still.ensures c.plan_at-plan.ensures c.place_rest-at.ensures c.status_byte.ensures

@@ -81,4 +81,13 @@ pub returns-in_default : goal.returns-in_default
 unfolding plan_at
 returns-in_default c = let kind = get_or c.args.kinds.now c.args.r 0 in
     let other : (k : ℕ) → kind ≢ k → eqb kind k ≡ false = λ k. ne_eqb kind k in
-    rw (c.plan_silent.ensures, other 2 (omega arith), other 3 (omega arith), other 4 (omega arith), other 5 (omega arith), other 6 (omega arith), other 7 (omega arith), other 8 (omega arith))
+    rw (
+      c.plan_silent.ensures,
+      other 2 (omega arith),
+      other 3 (omega arith),
+      other 4 (omega arith),
+      other 5 (omega arith),
+      other 6 (omega arith),
+      other 7 (omega arith),
+      other 8 (omega arith),
+    )

@@ -6,7 +6,8 @@ use Rattle.alike.proofs.Scanning.{entries_level, scanned_settled}
 use Rattle.alike.proofs.verdict.at_event.Goals as goal
 
 pub returns-then-quiet : goal.returns-then-quiet
-returns-then-quiet c = quiet_skip c.requires.records.0.held c.requires.pairs.1 (rw c.if-not-known.true at c.requires.named.0) (rw c.if-quiet.true at c.requires.named.1) c.requires.standing
+returns-then-quiet c = quiet_skip c.requires.records.0.held c.requires.pairs.1 (rw c.if-not-known.true at c.requires.named.0)
+    (rw c.if-quiet.true at c.requires.named.1) c.requires.standing
 
 pub scan-requires : goal.scan-requires
 scan-requires c = record {
@@ -15,4 +16,5 @@ scan-requires c = record {
 }
 
 pub returns : goal.returns
-returns c = scanned_settled _ _ _ c.requires.records.0.held.few c.requires.pairs.1 c.fill.ensures.0 c.requires.standing (settled_inside c.requires.standing) c.scan.ensures
+returns c = scanned_settled _ _ _ c.requires.records.0.held.few c.requires.pairs.1 c.fill.ensures.0 c.requires.standing
+    (settled_inside c.requires.standing) c.scan.ensures

@@ -12,15 +12,8 @@ pub loop-event-init : goal.loop-event-init
 loop-event-init c = (search rules, refl, refl, refl, not_yet, settled_none)
 
 pub returns-then-best-eq0 : goal.returns-then-best-eq0
-returns-then-best-eq0 c = standing_first c.requires.records.held c.requires.pairs.1 (settled_early c.if-best-eq0.true c.loop-event.invariant.0 c.loop-event.invariant.5)
-
-pub at_event-best-requires : goal.at_event-best-requires
-at_event-best-requires c = record {
-  records = (c.requires.records, record { notices_long = omega arith; statuses_long = omega arith; remains_long = omega arith });
-  pairs = c.requires.pairs;
-  named = (c.named-known.ensures, c.loop-event.invariant.4);
-  standing = c.loop-event.invariant.5;
-}
+returns-then-best-eq0 c = standing_first c.requires.records.held c.requires.pairs.1
+    (settled_early c.if-best-eq0.true c.loop-event.invariant.0 c.loop-event.invariant.5)
 
 pub loop-event-preserved : goal.loop-event-preserved
 loop-event-preserved c = (
