@@ -22,7 +22,8 @@ use Rattle.alike.specs.declared.plans.Part.{Part}
 use Rattle.alike.specs.declared.plans.Plan.{Plan}
 use Rattle.alike.specs.declared.plans.Rest.TheVariants.{New}
 use Rattle.alike.specs.Columns.{key_at, node_col, expressions, Held}
-use Rattle.alike.specs.Plans.{plan_silent, plan_event, plan_not, plan_next, plan_notify, plan_either, plan_try, rest_one, rest_next, rest_either, rest_try}
+use Rattle.alike.specs.Plans.{plan_silent, plan_event, plan_not, plan_next, plan_notify, plan_either, plan_try}
+use Rattle.alike.specs.Plans.{rest_one, rest_next, rest_either, rest_try}
 use Rattle.alike.specs.List.{part_at, plan_at, RestAt, Placed, Right, Filled}
 use Rattle.alike.proofs.Rows.{row_kind, row_x, row_y}
 use Rattle.alike.proofs.Placing.{looked_placed}
@@ -164,7 +165,8 @@ module _ {ks xs ys : List ℕ} {n : ℕ} (held : Held ks xs ys n) {still : ℕ} 
           }
 
       module _ {e : Expr} {p' : Part} (is' : Right (expressions ks xs ys) n a e p') where
-        pub either_right : RestAt ks xs ys n still (plan_either p p').rest q → Right (expressions ks xs ys) n a (either d e) (answered (plan_either p p') q)
+        pub either_right : RestAt ks xs ys n still (plan_either p p').rest q
+            → Right (expressions ks xs ys) n a (either d e) (answered (plan_either p p') q)
         unfolding plan_either status notices remainder
         either_right h =
             record {

@@ -1,4 +1,5 @@
--- The list for one event. `Filling` is the invariant of `fill`: the first r entries are right. `filled_one`: what is right in every entry is one list.
+-- The list for one event. `Filling` is the invariant of `fill`: the first r entries are right. `filled_one`: what is right in every
+-- entry is one list.
 use Prim.Native.Nat.{ℕ, ◌+◌, ◌≤◌, ◌<◌}
 use mathlib.Core.Path.{◌≡◌, refl, sym, ◌∙◌}
 use mathlib.Core.List.{List}

@@ -81,7 +81,8 @@ module _ (es ps : List ℕ) where
       }
 
   module _ (r : (reading es).number ≡ 0) (l : (listing es ps).number ≡ 0) where
-    closing_says : {k p : ℕ} → Final k p → ((k ≡ 0) × (p ≡ pairs es ps)) ⊎ FirstAt (expr_of es) (records es) (left_of es ps) (right_of es ps) (pairs es ps) 256 p k
+    closing_says : {k p : ℕ} → Final k p
+        → ((k ≡ 0) × (p ≡ pairs es ps)) ⊎ FirstAt (expr_of es) (records es) (left_of es ps) (right_of es ps) (pairs es ps) 256 p k
         → Says es ps (shows k p)
     closing_says {k} {p} v (inl h) =
         rw (h.0, get_or-eq_default (listing es ps).places (length ps) {n = p} (omega (arith, h.1)))
@@ -116,7 +117,8 @@ module _ (es ps : List ℕ) where
   says_judged (expressions_at_fault h) = sym (judged_expressions h)
   says_judged (pairs_at_fault r h) = sym (judged_pairs r h)
   says_judged (pair_at_fault {number} {place} r l f) =
-      ap (λ p. verdict number true p) (f.place_is ∙ get_or_inside (listing es ps).places f.pair 0 (length ps) f.inside) ∙ shows_one r l (final_faulty f)
+      ap (λ p. verdict number true p) (f.place_is ∙ get_or_inside (listing es ps).places f.pair 0 (length ps) f.inside)
+      ∙ shows_one r l (final_faulty f)
   says_judged (accepted a) =
       ap (λ p. verdict 0 true p) (sym (get_or-eq_default (listing es ps).places (length ps) {n = pairs es ps} (omega arith)))
       ∙ shows_one a.expressions_read a.pairs_read (final_accepted a)

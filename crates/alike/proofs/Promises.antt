@@ -1,5 +1,5 @@
--- What this crate promises beside its contracts, each theorem whole, with the file that proves it cited. Assumes nothing: there is no axiom in the crate.
--- es is an expression file, ps a pair file, as bytes; `judged es ps` is what `verdict_of`, `judge` and `shown` answer by their contracts.
+-- What this crate promises beside its contracts, each theorem whole, with the file that proves it cited. Assumes nothing: there is no axiom in the
+-- crate. es is an expression file, ps a pair file, as bytes; `judged es ps` is what `verdict_of`, `judge` and `shown` answer by their contracts.
 use Prim.Native.Nat.{ℕ, ◌<◌, ◌≤◌}
 use mathlib.Core.Path.{◌≡◌, sym}
 use mathlib.Core.Logic.{◌↔◌}
@@ -66,7 +66,8 @@ pub fault_is : (E : ℕ → Expr) (n : ℕ) → n ≤ 1024 → (Listed : ℕ →
     → ((p q : ℕ) → Tells (Listed p q) (lists p q)) → (d e : Expr) (a : ℕ) → Met E n Listed d e a (fault_of E n lists d e a)
 fault_is = Faults.fault_is
 
-pub fault_one : (E : ℕ → Expr) (n : ℕ) (Listed : ℕ → ℕ → Type 0) (d e : Expr) (a k m : ℕ) → Fault E n Listed d e a k → Fault E n Listed d e a m → k ≡ m
+pub fault_one : (E : ℕ → Expr) (n : ℕ) (Listed : ℕ → ℕ → Type 0) (d e : Expr) (a k m : ℕ)
+    → Fault E n Listed d e a k → Fault E n Listed d e a m → k ≡ m
 fault_one E n Listed d e a k m = Faults.fault_one
 
 pub closed_faultless : (E : ℕ → Expr) (n : ℕ) → ((i j : ℕ) → i < n → j < n → E i ≡ E j → i ≡ j) → (Listed : ℕ → ℕ → Type 0) (d e : Expr) (a k : ℕ)

@@ -1,5 +1,5 @@
--- Two files that are read without fault, in columns: `ready`, what reading leaves in the tables; `records_ready`, `pairs_ready` and `within_ready`, what
--- the judge asks of the columns; `closing_ready`, that its first fault is that of the files; and the verdict from it, outcome by outcome.
+-- Two files that are read without fault, in columns: `ready`, what reading leaves in the tables; `records_ready`, `pairs_ready` and `within_ready`,
+-- what the judge asks of the columns; `closing_ready`, that its first fault is that of the files; and the verdict from it, outcome by outcome.
 use Prim.Native.Nat.{ℕ, ◌<◌, ◌≤◌}
 use mathlib.Core.Path.{◌≡◌, sym, ◌∙◌, ap, ap₂}
 use mathlib.Core.Logic.{◌≢◌, ⊎_elim}
@@ -113,10 +113,12 @@ module _ {es at ix : List ℕ} {count : ℕ} {ps places : List ℕ} {listed : �
     pub within_ready : Within count ls rs listed
     within_ready = record { inside = λ i h. let e = row_is i h in let w = inside i h in rw (e.0, e.1) w }
 
-    pub closing_ready : {ks' xs ys : List ℕ} → Decoded es at count ks' xs ys → first_fault (expressions ks' xs ys) count (row ls) (row rs) listed ≡ closing es ps
+    pub closing_ready : {ks' xs ys : List ℕ} → Decoded es at count ks' xs ys
+        → first_fault (expressions ks' xs ys) count (row ls) (row rs) listed ≡ closing es ps
     unfolding closing
     closing_ready {ks'} {xs} {ys} d =
-        first_fault_same (expressions ks' xs ys) (expr_of es) count (expression_is d) (row ls) (row rs) (left_of es ps) (right_of es ps) listed row_is inside
+        first_fault_same (expressions ks' xs ys) (expr_of es) count (expression_is d) (row ls) (row rs) (left_of es ps) (right_of es ps) listed
+        row_is inside
         ∙ ap₂ (λ n m. first_fault (expr_of es) n (left_of es ps) (right_of es ps) m) r.count_is r.listed_is
 
 -- ---- the verdict, outcome by outcome

@@ -79,7 +79,8 @@ entries_level l w =
       entered = λ i h. let k = w.inside i h in ((omega arith, omega arith, omega arith), (omega arith, omega arith, omega arith));
     }
 
-module _ {E : ℕ → Expr} {n : ℕ} {ls rs : List ℕ} {m a : ℕ} (N S R : List ℕ) (few : n ≤ 1024) (w : Within n ls rs m) (filled : Filled E n a N S R n) where
+module _ {E : ℕ → Expr} {n : ℕ} {ls rs : List ℕ} {m a : ℕ} (N S R : List ℕ) (few : n ≤ 1024)
+    (w : Within n ls rs m) (filled : Filled E n a N S R n) where
   row_met : {i k : ℕ} → i < m → RowPart N S R ls rs m i k → Met E n (ListedRow (row ls) (row rs) m) (E (row ls i)) (E (row rs i)) a k
   row_met {i} h f = part_met few (filled (row ls i) (w.inside i h).0) (filled (row rs i) (w.inside i h).1) f
 

@@ -93,7 +93,8 @@ module _ {E : ℕ → Expr} {n : ℕ} {left right : ℕ → ℕ} {m : ℕ} where
     settled_fault i l now f =
         record {
           before = both i (omega arith) now;
-          here = inr (record { inside = omega (arith, settled_inside); event = a; below = omega arith; fault = f; earlier = λ b h. v.before i b l h });
+          here =
+              inr (record { inside = omega (arith, settled_inside); event = a; below = omega arith; fault = f; earlier = λ b h. v.before i b l h });
         }
 
   -- nothing comes before pair 0
