@@ -56,6 +56,7 @@ fn put_record(out: &mut [u8], notices: Notices, status: u8)
 }
 
 // Answers an event at the front of `out`, where `met` are the event nodes in play that have it; the nodes in play afterwards.
+#[tactic(auto, unfolding(play::specs::Mirror::Step::stepped_by))]
 fn answer(
     nodes: &[u16; 64],
     gain: &[u64; 64],

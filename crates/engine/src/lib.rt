@@ -107,6 +107,7 @@ pub fn narrow(sent: u64) -> Notices
 }
 
 // The work of `step`, by value: the two words in, the two words and the reply out.
+#[tactic(auto, unfolding(crate::specs::Mirror::Desk::onward))]
 fn move_on<'a>(
     is_open: u8,
     root: usize,

@@ -1,5 +1,5 @@
 -- `ready::ready_of` meets its contract: the file's number, then the rule's size, then the last record written out and its nodes prepared.
-use mathlib.Core.Path.{sym}
+use Rattle.std.proofs.Common.{arith, sym}
 use lib.Seq.{length-take-le}
 use Rattle.files.proofs.Places.{places_fit, records_ready}
 use Rattle.ready.proofs.Readying.{refused_read, refused_large, write_room, nodes_some, prepare_asks, rule_ready}
@@ -19,7 +19,7 @@ rule_size-requires c = records_ready _ c.read_expressions-reading.ensures.read c
 
 pub returns-then-rule_size-gt64 : goal.returns-then-rule_size-gt64
 returns-then-rule_size-gt64 c =
-    refused_large _ c.read_expressions-reading.ensures.read c.if-number-ne0.false c.rule_size.ensures c.if-rule_size-gt64.true
+    refused_large _ c.read_expressions-reading.ensures.read c.if-number-ne0.false c.rule_size.ensures (omega arith)
 
 pub slice_bounds-at-end-2 : goal.slice_bounds-at-end-2
 slice_bounds-at-end-2 c = places_fit c.read_expressions-reading.ensures.read
@@ -32,22 +32,22 @@ overflow_sub-count c = (records_ready _ c.read_expressions-reading.ensures.read 
 
 pub write_out-n-requires : goal.write_out-n-requires
 write_out-n-requires c =
-    write_room _ c.read_expressions-reading.ensures.read c.if-number-ne0.false c.rule_size.ensures c.if-rule_size-gt64.false
+    write_room _ c.read_expressions-reading.ensures.read c.if-number-ne0.false c.rule_size.ensures (omega arith)
 
 pub overflow_sub-n : goal.overflow_sub-n
-overflow_sub-n c = nodes_some _ c.read_expressions-reading.ensures.read c.if-number-ne0.false c.rule_size.ensures c.if-rule_size-gt64.false
+overflow_sub-n c = nodes_some _ c.read_expressions-reading.ensures.read c.if-number-ne0.false c.rule_size.ensures (omega arith)
     c.write_out-n.ensures
 
 pub prepare-start-requires : goal.prepare-start-requires
 prepare-start-requires c =
-    prepare_asks _ c.read_expressions-reading.ensures.read c.if-number-ne0.false c.rule_size.ensures c.if-rule_size-gt64.false
+    prepare_asks _ c.read_expressions-reading.ensures.read c.if-number-ne0.false c.rule_size.ensures (omega arith)
     c.write_out-n.ensures
 
 pub overflow_sub-result : goal.overflow_sub-result
 overflow_sub-result c =
-    nodes_some _ c.read_expressions-reading.ensures.read c.if-number-ne0.false c.rule_size.ensures c.if-rule_size-gt64.false
+    nodes_some _ c.read_expressions-reading.ensures.read c.if-number-ne0.false c.rule_size.ensures (omega arith)
     c.write_out-n.ensures
 
 pub returns : goal.returns
-returns c = rule_ready _ c.read_expressions-reading.ensures.read c.if-number-ne0.false c.rule_size.ensures c.if-rule_size-gt64.false
+returns c = rule_ready _ c.read_expressions-reading.ensures.read c.if-number-ne0.false c.rule_size.ensures (omega arith)
     c.write_out-n.ensures c.prepare-start.ensures
