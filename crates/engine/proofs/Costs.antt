@@ -32,11 +32,16 @@ step_size : (b : Book) (a : ℕ) → rule_size (book_after b (stepping a)) ≡ r
 step_size closed a = refl
 step_size («open» x feed) a = refl
 
+-- the next call, if it is an opening, was refused
+refused_next : (s : List ℕ) (later : List Call) → NoneAccepted (opening s ∷ later) → (rule_number s ≢ 0) × NoneAccepted later
+refused_next s later none = none
+
 few : (later : List Call) (n : ℕ) (d : Desk) (b : Book) → rule_size b ≡ n → BytesIn later → NoneAccepted later → Keeps d b → LinesUpTo n (desks_back d later)
 unfolding desks_back
 few [] n d b e bytes none k = tt
 few (opening s ∷ later) n d b e bytes none k =
-    few later n _ _ (refused_size b s none.0 ∙ e) bytes.1 none.1 (opens d b s bytes.0 k).after
+    let next = refused_next s later none in
+    few later n _ _ (refused_size b s next.0 ∙ e) bytes.1 next.1 (opens d b s bytes.0 k).after
 few (stepping a ∷ later) n d b e bytes none k =
     (rw e at (step_few d b k a), few later n _ _ (step_size b a ∙ e) bytes none (steps d b a k).after)
 
