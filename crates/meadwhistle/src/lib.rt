@@ -1,5 +1,5 @@
-// What other languages call, as functions of this library: slices cross as a pointer and a length, statuses as their byte, structs by value. The crate
-// `meadwhistle_c` exports each under its name.
+// What other languages call, as functions of this library: slices cross as a pointer and a length, statuses as their byte, structs by value.
+// The crate `meadwhistle_c` exports each under its name.
 #![tactic(auto)]
 
 ghost use Rattle.std.specs.Prelude.{◌≡◌};

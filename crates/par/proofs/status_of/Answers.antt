@@ -1,3 +1,4 @@
+-- `par::status_of` meets its contract: byte by byte.
 use Rattle.std.proofs.Common.{rules}
 use Rattle.par.specs.Status.{status_of}
 use Rattle.par.proofs.status_of.Goals as goal
