@@ -87,7 +87,8 @@ module _ (s events : List ℕ) (place : ℕ) (buffer : List ℕ) where
   ran_few : ran_number s events place buffer ≤ 9
   unfolding ran_number
   ran_few =
-      cond_all (λ k. k ≤ 9) (eqb (rule_number s) 0) _ _ (cond_all (λ k. k ≤ 9) (leb (place + 7 * length events) (length buffer)) 0 9 (omega arith) (omega arith))
+      cond_all (λ k. k ≤ 9) (eqb (rule_number s) 0) _ _
+      (cond_all (λ k. k ≤ 9) (leb (place + 7 * length events) (length buffer)) 0 9 (omega arith) (omega arith))
       (omega (arith, rule_number_lem s))
 
   module _ {r : Ran} {buffer' : List ℕ} (fed : Fed s events place buffer r buffer') where

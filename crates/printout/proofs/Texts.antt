@@ -33,7 +33,8 @@ use Rattle.printout.proofs.Lines.{answer_bytes_long, lines_of_long, lines_answer
 
 -- ---- the text of a rule's nodes in the output
 
-module _ (l : List ℕ) (root : ℕ) (events : List ℕ) (rs : List Answer) (many : length rs ≡ length events) {head : ℕ} (is : head ≡ 6 + decimal_length (root + 1)) where
+module _ (l : List ℕ) (root : ℕ) (events : List ℕ) (rs : List Answer) (many : length rs ≡ length events) {head : ℕ}
+    (is : head ≡ 6 + decimal_length (root + 1)) where
   pub rule_long : head + 16 * length events ≡ length (rule_text_of root events rs)
   rule_long = omega (arith, decimal_long (root + 1), lines_of_long events rs many, length-append (decimal (root + 1)) (lines_of events rs))
 
