@@ -23,3 +23,4 @@ pub mod LikeWidest
 pub mod Unnamed
 pub mod Records
 pub mod Worked
+pub mod Nodes

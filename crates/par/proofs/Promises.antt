@@ -3,6 +3,8 @@ use Prim.Native.Nat.{ℕ, suc, ◌/◌, ◌%◌, ◌^◌, ◌<◌, ◌≤◌, mi
 use mathlib.Core.Path.{◌≡◌, refl, sym, ◌∙◌}
 use mathlib.Core.List.{List, [], ◌∷◌, map, Memᴰ}
 use mathlib.Core.Logic.{◌≢◌, ◌↔◌}
+use Rattle.std.specs.declared.cmp.Ordering.TheVariants.{Equal}
+use Rattle.std.specs.Bool.{Decides}
 use Rattle.par.specs.declared.Status.{Status}
 use Rattle.par.specs.declared.Status.TheVariants.{Waiting}
 use Rattle.par.specs.declared.Node.{Node}
@@ -19,6 +21,8 @@ use Rattle.par.specs.Throughout.{Unnamed, Fits, Writable}
 use Rattle.par.specs.Exchange.{Exchangeable, SameInBoth, ToldApart}
 use Rattle.par.specs.Growth.{most_nodes, repeats}
 use Rattle.par.specs.Records.{expr, File}
+use Rattle.par.specs.Nodes.{node_cmp, same_node, field_cmp}
+use Rattle.par.proofs.Nodes
 use Rattle.par.proofs.Order
 use Rattle.par.proofs.Sets
 use Rattle.par.proofs.Figure3
@@ -240,3 +244,14 @@ one_record = Records.one_record
 
 pub worked : Worked
 worked = Worked.worked
+
+-- ---- Records stand in the order of their kinds, then of their first parts or events, then of their second parts or sets; and are told apart by all three
+
+pub node_cmp_fields : (a b : Node) → node_cmp a b ≡ field_cmp a b
+node_cmp_fields = Nodes.node_cmp_fields
+
+pub node_equal : (a b : Node) → node_cmp a b ≡ Equal → a ≡ b
+node_equal = Nodes.node_equal
+
+pub same_node_lem : (a b : Node) → Decides (same_node a b) (a ≡ b)
+same_node_lem = Nodes.same_node_lem

@@ -10,3 +10,4 @@ pub mod Throughout
 pub mod Exchange
 pub mod Growth
 pub mod Records
+pub mod Nodes

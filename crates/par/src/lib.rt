@@ -8,7 +8,7 @@ ghost use Rattle.par.specs.Status.{opposite as opposed, higher, tried, status_by
 pub type Notices = u16;
 
 // How an expression stands after an event.
-#[derive(Clone, Copy)]
+#[derive(Clone, Copy, PartialEq, Eq)]
 pub enum Status {
     Waiting,
     Success,
@@ -16,7 +16,7 @@ pub enum Status {
 }
 
 // What one event is answered with: the notices to send, the lines of the status rules that were used, and the status.
-#[derive(Clone, Copy)]
+#[derive(Clone, Copy, PartialEq, Eq)]
 pub struct Answer {
     pub notices: Notices,
     pub lines: u64,
@@ -24,7 +24,7 @@ pub struct Answer {
 }
 
 // A record of an expression file: its construct and its body. Parts are numbers of earlier records.
-#[derive(Clone, Copy)]
+#[derive(Clone, Copy, PartialEq, Eq, PartialOrd, Ord)]
 pub enum Node {
     Silent,
     Event(u8),
@@ -36,49 +36,43 @@ pub enum Node {
     Try(usize, usize),
 }
 
-// Success and failure exchanged.
-pub fn opposite(s: Status) -> Status
-    ensures { result ≡ opposed s }
-{
-    match s {
-        Status::Waiting => Status::Waiting,
-        Status::Success => Status::Failure,
-        Status::Failure => Status::Success,
-    }
-}
-
-// The row or column of a status in the two tables.
-fn place(s: Status) -> usize
-    ensures { (result ≡ status_byte s) × (result < 3) }
-{
-    match s {
-        Status::Waiting => 0,
-        Status::Success => 1,
-        Status::Failure => 2,
+impl Status {
+    // Success and failure exchanged.
+    pub fn opposite(self) -> Status
+        ensures { result ≡ opposed self }
+    {
+        match self {
+            Status::Waiting => Status::Waiting,
+            Status::Success => Status::Failure,
+            Status::Failure => Status::Success,
+        }
     }
 }
 
 // The byte that stands for a status in an answer record.
-pub fn status_byte(s: Status) -> u8
-    ensures { result ≡ status_byte s }
-{
-    place(s) as u8
+impl From<Status> for u8 {
+    fn from(s: Status) -> u8
+        ensures { result ≡ status_byte s }
+    {
+        s as u8 // its place among the variants
+    }
 }
 
 // The status that a byte stands for; one that stands for none counts as failure.
-pub fn status_of(byte: u8) -> Status
-    ensures { result ≡ status_of byte }
-{
-    if byte == 0 {
-        return Status::Waiting;
+impl From<u8> for Status {
+    #[tactic(auto, unfolding(crate::specs::Status::status_of))]
+    fn from(byte: u8) -> Status
+        ensures { result ≡ status_of byte }
+    {
+        match byte {
+            0 => Status::Waiting,
+            1 => Status::Success,
+            _ => Status::Failure,
+        }
     }
-    if byte == 1 {
-        return Status::Success;
-    }
-    Status::Failure
 }
 
-// Rows by the first part's status, columns by the second's: waiting, success, failure.
+// Rows by the first part's status, columns by the second's: waiting, success, failure. A status is an index by its place among the variants.
 const EITHER: [[Status; 3]; 3] = [
     [Status::Waiting, Status::Success, Status::Waiting],
     [Status::Success, Status::Success, Status::Success],
@@ -91,16 +85,16 @@ const TRY: [[Status; 3]; 3] = [
     [Status::Failure, Status::Failure, Status::Failure],
 ];
 
-// The status of `either x, y` from those of x and y.
+// The status of `either x, y` from those of x and y. A table for each construct, as document 01 names them.
 pub fn either_status(x: Status, y: Status) -> Status
     ensures { result ≡ higher x y }
 {
-    EITHER[place(x)][place(y)]
+    EITHER[x as usize][y as usize]
 }
 
 // The status of `try x unless y` from those of x and y.
 pub fn try_status(x: Status, y: Status) -> Status
     ensures { result ≡ tried x y }
 {
-    TRY[place(x)][place(y)]
+    TRY[x as usize][y as usize]
 }
