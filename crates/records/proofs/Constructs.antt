@@ -1,6 +1,6 @@
--- A record's construct: `earlier_parts`, the test of its parts; `key_one`, its key decides it; `node_range`, its event and its set are in range.
+-- A record's construct: `earlier_parts`, the test of its parts; `node_range`, its event and its set are in range.
 use Prim.Native.Nat.{ℕ, ◌+◌, ◌<◌}
-use mathlib.Core.Path.{◌≡◌, refl, sym, ap, ◌∙◌}
+use mathlib.Core.Path.{◌≡◌, refl, sym}
 use mathlib.Core.Logic.{◌≢◌}
 use mathlib.Core.List.{List}
 use mathlib.Core.Bool.{Bool, true, false, ◌&&◌, true≢false}
@@ -11,9 +11,8 @@ use lib.Dec.{ltb, eqb}
 use Rattle.par.specs.declared.Node.{Node}
 use Rattle.par.specs.declared.Node.TheVariants.{Silent, Event, Not, Either, Then, Repeat, Notify, Try}
 use Rattle.par.specs.Records.{Parts}
-use Rattle.records.specs.declared.Key.{Key}
 use Rattle.records.specs.Fields.{word_at}
-use Rattle.records.specs.Constructs.{node_of, node_at, earlier_in, key_of, InRange}
+use Rattle.records.specs.Constructs.{node_of, node_at, earlier_in, InRange}
 use Rattle.records.proofs.Fields.{word_lt}
 use Rattle.records.proofs.Tests.{cond_all}
 
@@ -38,31 +37,6 @@ node_range s small p =
     (cond_all InRange (eqb k 6) (Repeat x) _ tt
     (cond_all InRange (eqb k 7) (Notify x y) _ (word_lt s small p 6)
     (cond_all InRange (eqb k 8) (Try x y) Silent tt tt))))))
-
--- ---- keys
-
--- a key is its three numbers
-pub key_is : {kind x y : ℕ} (k : Key) → (k.kind ≡ kind) × (k.x ≡ x) × (k.y ≡ y) → k ≡ record { kind = kind; x = x; y = y }
-key_is k e = λ i. record { kind = e.0 i; x = e.1 i; y = e.2 i }
-
--- the construct that a key is of
-of_key : Key → Node
-of_key k = node_of k.kind k.x k.x k.y k.y
-
-of_key_lem : (m : Node) → of_key (key_of m) ≡ m
-unfolding of_key node_of
-of_key_lem Silent = refl
-of_key_lem (Event b) = refl
-of_key_lem (Not x) = refl
-of_key_lem (Either x y) = refl
-of_key_lem (Then x y) = refl
-of_key_lem (Repeat x) = refl
-of_key_lem (Notify x A) = refl
-of_key_lem (Try x y) = refl
-
--- a record is decided by its key
-pub key_one : (m k : Node) → key_of m ≡ key_of k → m ≡ k
-key_one m k e = sym (of_key_lem m) ∙ ap of_key e ∙ of_key_lem k
 
 -- ---- parts
 

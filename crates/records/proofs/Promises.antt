@@ -1,28 +1,51 @@
 -- What this crate promises beside its contracts, each theorem whole, with the file that proves it cited. Assumes nothing: there is no axiom in the crate.
 use Prim.Native.Nat.{ℕ, ◌<◌, ◌≤◌}
 use mathlib.Core.Path.{◌≡◌}
+use mathlib.Core.Logic.{◌≢◌}
 use mathlib.Core.List.{List}
 use mathlib.Core.Bool.{true, false}
 use lib.ListN.{length, get_or}
 use Rattle.par.specs.declared.Node.{Node}
+use Rattle.std.specs.declared.cmp.Ordering.TheVariants.{Equal}
+use Rattle.par.specs.Nodes.{node_cmp}
 use Rattle.par.specs.Records.{Parts}
+use Rattle.par.proofs.Nodes
+use Rattle.std.specs.Prelude.{Result, IfOk}
 use Rattle.records.specs.declared.Contents.{Contents}
+use Rattle.records.specs.declared.refusal.Refusal.{Refusal}
 use Rattle.records.specs.declared.Next.{Next}
 use Rattle.records.specs.Kinds.{most_of}
-use Rattle.records.specs.Constructs.{node_at, earlier_in, key_of, InRange}
+use Rattle.records.specs.Constructs.{node_at, earlier_in, InRange}
 use Rattle.records.specs.Next.{next_at}
 use Rattle.records.specs.Walk.{Found, turn, walked}
 use Rattle.records.specs.Says.{Stands, Says}
+use Rattle.records.specs.Refusals.{number_of, number}
+use Rattle.records.proofs.Refusals
 use Rattle.records.proofs.Constructs
 use Rattle.records.proofs.Says
 use Rattle.records.proofs.Walks
+
+-- ---- A refusal is known by its number, which is never 0
+
+pub refusal_one : (r r' : Refusal) → number_of r ≡ number_of r' → r ≡ r'
+refusal_one r r' = Refusals.refusal_one
+
+pub refusal_some : (r : Refusal) → number_of r ≢ 0
+refusal_some = Refusals.refusal_some
+
+-- So what a call comes to is known by its number, where it gives nothing else, and else by its number and the value that it gives if it is accepted.
+pub outcome_one : (o o' : Result (Unit {0}) Refusal) → number o ≡ number o' → o ≡ o'
+outcome_one = Refusals.outcome_one
+
+pub result_one : {A : Type 0} (o o' : Result A Refusal) (x : A) → number o ≡ number o' → IfOk o (λ a. a ≡ x) → IfOk o' (λ a. a ≡ x) → o ≡ o'
+result_one = Refusals.result_one
 
 -- ---- At every place of every file one thing stands, by the tests in document 01's order, and `next_at` computes it
 
 pub next_stands : (s : List ℕ) (contents : Contents) (pos count : ℕ) → Stands s contents pos count (next_at s contents pos count)
 next_stands = Says.next_stands
 
-pub stands_one : (s : List ℕ) (contents : Contents) (pos count : ℕ) (o o' : Next)
+pub stands_one : (s : List ℕ) (contents : Contents) (pos count : ℕ) (o o' : Result Next Refusal)
     → Stands s contents pos count o → Stands s contents pos count o' → o ≡ o'
 stands_one s contents pos count o o' = Says.stands_one
 
@@ -50,10 +73,10 @@ pub earlier_parts : (n : ℕ) (m : Node)
     → (earlier_in n m ≡ true → Parts (λ p. p < n) m) × (earlier_in n m ≡ false → Parts (λ p. p < n) m → ⊥)
 earlier_parts = Constructs.earlier_parts
 
--- ---- Two records with one key are one record
+-- ---- Two records that stand at one place in their order are one record
 
-pub key_one : (m k : Node) → key_of m ≡ key_of k → m ≡ k
-key_one = Constructs.key_one
+pub key_one : (m k : Node) → node_cmp m k ≡ Equal → m ≡ k
+key_one = Nodes.node_equal
 
 -- ---- In a file of bytes every event is a byte, and every notice set fits 16 bits
 

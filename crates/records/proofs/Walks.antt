@@ -1,15 +1,17 @@
 -- `walked_says`, `says_one`: a file says what the walk finds, and nothing else. `Going`: the invariant of a loop that reads a file into a lent table.
 use Prim.Native.Nat.{ℕ, zero, suc, ◌+◌, ◌≤◌, ◌<◌}
-use mathlib.Core.Path.{◌≡◌, refl, sym, ◌∙◌}
+use mathlib.Core.Path.{◌≡◌, refl, sym, ap, ◌∙◌}
 use mathlib.Core.List.{List, [], ◌∷◌, ◌++◌}
 use native.Mathlib.Omega.{arith}
 use borrow.Author.Tests.{ne_eqb}
 use lib.ListN.{length, take, drop, set, length-append, length-set, take-append-drop}
 use lib.Seq.{length-take-le}
 use lib.Dec.{eqb-suc-zero}
+use Rattle.std.specs.Prelude.{Result, Ok, Err}
 use Rattle.records.specs.declared.Contents.{Contents}
 use Rattle.records.specs.declared.Next.{Next}
-use Rattle.records.specs.declared.Next.TheVariants.{End, Refused, Passed, Record}
+use Rattle.records.specs.declared.Next.TheVariants.{End, Passed, Record}
+use Rattle.records.specs.declared.refusal.Refusal.{Refusal}
 use Rattle.records.specs.Kinds.{most_of}
 use Rattle.records.specs.Next.{next_at}
 use Rattle.records.specs.Walk.{Found, found, Turn, Turn.stop, Turn.past, Turn.on, turn_by, turn, follow, walk, walked, ReadTo}
@@ -63,7 +65,7 @@ module _ {turns : ℕ → List ℕ → Turn} {size pos : ℕ} {ps : List ℕ} (w
 
 -- ---- what a file says
 
-pub turn_is : (s : List ℕ) (contents : Contents) (body : ℕ → List ℕ → ℕ) (pos : ℕ) (ps : List ℕ) {o : Next} {count b : ℕ}
+pub turn_is : (s : List ℕ) (contents : Contents) (body : ℕ → List ℕ → ℕ) (pos : ℕ) (ps : List ℕ) {o : Result Next Refusal} {count b : ℕ}
     → o ≡ next_at s contents pos count → length ps ≡ count → body pos ps ≡ b → turn s contents body pos ps ≡ turn_by o count b
 unfolding turn
 turn_is s contents body pos ps e few fine = rw (few, fine, ← e)
@@ -79,25 +81,25 @@ module _ (s : List ℕ) (contents : Contents) (Body : ℕ → List ℕ → ℕ �
   pub says_within : {f : Found} → Says s contents Body f → (f.place ≤ length s) × (length f.places ≤ most_of contents)
   says_within (accepted before stands some) = sound_within before
   says_within (empty before stands) = sound_within before
-  says_within (refused before stands) = sound_within before
+  says_within (refused before stands e) = sound_within before
   says_within (body_refused before stands fault) = sound_within before
 
   -- one turn says what the rest says
-  follow_says : (pos : ℕ) (ps : List ℕ) (o : Next) (b : ℕ) (rest : ℕ → List ℕ → Found)
+  follow_says : (pos : ℕ) (ps : List ℕ) (o : Result Next Refusal) (b : ℕ) (rest : ℕ → List ℕ → Found)
       → Sound s contents Body ps pos → Stands s contents pos (length ps) o → Body pos ps b
       → ((next : ℕ) (qs : List ℕ) → Sound s contents Body qs next → pos < next → next ≤ length s → Says s contents Body (rest next qs))
       → Says s contents Body (follow pos ps (turn_by o (length ps) b) rest)
   unfolding follow
-  follow_says pos [] End b rest before stands fine says = empty before stands
-  follow_says pos (p ∷ ps) End b rest before stands fine says = rw (eqb-suc-zero (length ps)) (accepted before stands (omega arith))
-  follow_says pos ps (Refused n) b rest before stands fine says = refused before stands
-  follow_says pos ps (Passed next) b rest before stands fine says =
+  follow_says pos [] (Ok End) b rest before stands fine says = empty before stands
+  follow_says pos (p ∷ ps) (Ok End) b rest before stands fine says = rw (eqb-suc-zero (length ps)) (accepted before stands (omega arith))
+  follow_says pos ps (Err r) b rest before stands fine says = refused before stands refl
+  follow_says pos ps (Ok (Passed next)) b rest before stands fine says =
       let onward = stands_onward stands in
       says next ps (passed before stands) onward.0 onward.1
-  follow_says pos ps (Record next) zero rest before stands fine says =
+  follow_says pos ps (Ok (Record next)) zero rest before stands fine says =
       let onward = stands_onward stands in
       says next (ps ++ (pos ∷ [])) (counted before stands fine) onward.0 onward.1
-  follow_says pos ps (Record next) (suc n) rest before stands fine says = rw (eqb-suc-zero n) (body_refused before stands fine)
+  follow_says pos ps (Ok (Record next)) (suc n) rest before stands fine says = rw (eqb-suc-zero n) (body_refused before stands fine)
 
   module _ (body : ℕ → List ℕ → ℕ) (sound : (pos : ℕ) (ps : List ℕ) → Body pos ps (body pos ps)) where
     walk_says : (fuel pos : ℕ) (ps : List ℕ) → Sound s contents Body ps pos → pos ≤ length s → length s < pos + fuel
@@ -131,7 +133,7 @@ module _ (s : List ℕ) (contents : Contents) (Body : ℕ → List ℕ → ℕ �
       says_walked (accepted {ps} before stands some) =
           walking_stop (sound_walking before) 0 (turn_is _ _ _ _ _ (stands_next stands) refl refl ∙ simp (ne_eqb (length ps) 0 (omega arith)))
       says_walked (empty before stands) = walking_stop (sound_walking before) 1 (turn_is _ _ _ _ _ (stands_next stands) refl refl)
-      says_walked (refused {n = n} before stands) = walking_stop (sound_walking before) n (turn_is _ _ _ _ _ (stands_next stands) refl refl)
+      says_walked (refused {n = n} before stands e) = walking_stop (sound_walking before) n (turn_is _ _ _ _ _ (stands_next stands) refl refl ∙ ap stop e)
       says_walked (body_refused {n = n} before stands fault) =
           walking_stop (sound_walking before) (suc n) (turn_is _ _ _ _ _ (stands_next stands) refl (body_is fault) ∙ simp eqb-suc-zero)
 

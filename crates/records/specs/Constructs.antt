@@ -2,7 +2,6 @@
 use Rattle.std.specs.Prelude.{ℕ, ◌+◌, ◌<◌, List, Bool, true, cond, ◌&&◌, get_or, eqb, ltb}
 use Rattle.par.specs.declared.Node.{Node}
 use Rattle.par.specs.declared.Node.TheVariants.{Silent, Event, Not, Either, Then, Repeat, Notify, Try}
-use Rattle.records.specs.declared.Key.{Key}
 use Rattle.records.specs.Fields.{word_at}
 
 -- the construct of a kind with the event b, the parts x and y, and the set A
@@ -30,17 +29,6 @@ earlier_in n (Then x y) = ltb x n && ltb y n
 earlier_in n (Repeat x) = ltb x n
 earlier_in n (Notify x A) = ltb x n
 earlier_in n (Try x y) = ltb x n && ltb y n
-
--- kind and body as three numbers
-abbrev pub key_of : Node → Key
-key_of Silent = record { kind = 1; x = 0; y = 0 }
-key_of (Event b) = record { kind = 2; x = b; y = 0 }
-key_of (Not x) = record { kind = 3; x = x; y = 0 }
-key_of (Either x y) = record { kind = 4; x = x; y = y }
-key_of (Then x y) = record { kind = 5; x = x; y = y }
-key_of (Repeat x) = record { kind = 6; x = x; y = 0 }
-key_of (Notify x A) = record { kind = 7; x = x; y = A }
-key_of (Try x y) = record { kind = 8; x = x; y = y }
 
 -- its event is a byte, and its notice set fits 16 bits
 abbrev pub InRange : Node → Type 0

@@ -1,5 +1,5 @@
 -- Document 01's table of kinds and lengths.
-use Rattle.std.specs.Prelude.{ℕ, cond, eqb}
+use Rattle.std.specs.Prelude.{ℕ, Option, Some, None, cond, eqb}
 use Rattle.records.specs.declared.Contents.{Contents}
 use Rattle.records.specs.declared.Contents.TheVariants.{Expressions, Pairs}
 use Rattle.records.specs.declared.Kind.{Kind}
@@ -18,14 +18,14 @@ kind_of k =
     (cond (eqb k 8) (Construct 8)
     (cond (eqb k 16) (Pair 8) Reserved))))))))
 
--- the length of a record of this kind in a file; 0 where the kind is not in the file's list
-abbrev pub length_in : Contents → Kind → ℕ
-length_in Expressions (Construct n) = n
-length_in Expressions (Pair n) = 0
-length_in Expressions Reserved = 0
-length_in Pairs (Construct n) = 0
-length_in Pairs (Pair n) = n
-length_in Pairs Reserved = 0
+-- the length of a record of this kind in a file, where the kind is in the file's list
+abbrev pub length_in : Contents → Kind → Option ℕ
+length_in Expressions (Construct n) = Some n
+length_in Expressions (Pair n) = None
+length_in Expressions Reserved = None
+length_in Pairs (Construct n) = None
+length_in Pairs (Pair n) = Some n
+length_in Pairs Reserved = None
 
 -- how many records a file may hold
 abbrev pub most_of : Contents → ℕ

@@ -1,8 +1,10 @@
 -- Reading a file from the front, record by record: one definition for every kind of file, over the number that a record's body gets.
-use Rattle.std.specs.Prelude.{ℕ, zero, suc, ◌≡◌, List, [], ◌∷◌, ◌++◌, cond, length, drop, eqb}
+use Rattle.std.specs.Prelude.{ℕ, zero, suc, ◌≡◌, List, [], ◌∷◌, ◌++◌, Result, Ok, Err, cond, length, drop, eqb}
 use Rattle.records.specs.declared.Contents.{Contents}
 use Rattle.records.specs.declared.Next.{Next}
-use Rattle.records.specs.declared.Next.TheVariants.{End, Refused, Passed, Record}
+use Rattle.records.specs.declared.Next.TheVariants.{End, Passed, Record}
+use Rattle.records.specs.declared.refusal.Refusal.{Refusal}
+use Rattle.records.specs.Refusals.{number_of}
 use Rattle.records.specs.Next.{next_at}
 
 -- what reading finds: the number, the place of the fault or of the end, and the places of the records before it
@@ -21,11 +23,11 @@ pub data Turn : Type 0 where
   on : ℕ → Turn
 
 -- by what stands there, and the number that the record's body gets (0: none)
-abbrev pub turn_by : Next → ℕ → ℕ → Turn
-turn_by End count body = stop (cond (eqb count 0) 1 0)
-turn_by (Refused n) count body = stop n
-turn_by (Passed next) count body = past next
-turn_by (Record next) count body = cond (eqb body 0) (on next) (stop body)
+abbrev pub turn_by : Result Next Refusal → ℕ → ℕ → Turn
+turn_by (Ok End) count body = stop (cond (eqb count 0) 1 0)
+turn_by (Err r) count body = stop (number_of r)
+turn_by (Ok (Passed next)) count body = past next
+turn_by (Ok (Record next)) count body = cond (eqb body 0) (on next) (stop body)
 
 module _ (s : List ℕ) (contents : Contents) (body : ℕ → List ℕ → ℕ) where
   unfoldable pub turn : ℕ → List ℕ → Turn

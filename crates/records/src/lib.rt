@@ -1,13 +1,16 @@
 // A record in the lent bytes: its fields in place, its kind and length, what it says, and what stands at a place of a file.
 #![tactic(auto)]
 
+pub mod refusal; // refusal.rt: why something is refused, with its number
+
 ghost use Rattle.std.specs.Prelude.{◌≡◌, ◌+◌, get_or};
 ghost use Rattle.records.specs.Fields.{word_at};
 ghost use Rattle.records.specs.Kinds.{kind_of, length_in, most_of};
-ghost use Rattle.records.specs.Constructs.{node_at, earlier_in, key_of};
+ghost use Rattle.records.specs.Constructs.{node_at, earlier_in};
 ghost use Rattle.records.specs.Next.{next_at};
 
 use par::Node;
+pub use refusal::{Refusal, number};
 
 // What a file holds.
 #[derive(Clone, Copy)]
@@ -16,7 +19,7 @@ pub enum Contents {
     Pairs,
 }
 
-// Which file's list a kind stands in, with the length of its records.
+// Which file's list a kind stands in, with the length of its records: a case for each sort of row in document 01's table.
 #[derive(Clone, Copy)]
 pub enum Kind {
     Construct(u16),
@@ -24,21 +27,13 @@ pub enum Kind {
     Reserved,
 }
 
-// What stands at a place of a file: with a record, and with one that is passed over, where the next begins.
+// What stands at a place of a file: with a record, and with one that is passed over, where the next begins. No kind is passed over today; the
+// definitions `turn_by` and `Sound`, which say what a file means, have the case.
 #[derive(Clone, Copy)]
 pub enum Next {
     End,
-    Refused(u8),
     Passed(usize),
     Record(usize),
-}
-
-// Kind and body as three numbers: two records are the same where all three are.
-#[derive(Clone, Copy)]
-pub struct Key {
-    pub kind: u8,
-    pub x: usize,
-    pub y: u64,
 }
 
 // ---- fields, little-endian, taken from the file
@@ -47,101 +42,89 @@ pub struct Key {
 pub fn byte_at(s: &[u8], p: usize, k: usize) -> u8
     ensures { result ≡ get_or s.now (p + k) 0 }
 {
-    let n = s.len();
-    if n <= p {
-        return 0;
+    match p.checked_add(k) {
+        Some(i) => s.get(i).copied().unwrap_or(0),
+        None => 0,
     }
-    if n - p <= k {
-        return 0;
-    }
-    s[p + k]
-}
-
-fn wide(b: u8) -> u16
-    ensures { result ≡ b }
-{
-    b as u16
 }
 
 // The number of the two bytes `k` places after `p`.
+#[tactic(auto, unfolding(crate::specs::Fields::word_at))]
 pub fn word_at(s: &[u8], p: usize, k: u8) -> u16
     ensures { result ≡ word_at s.now p k }
 {
-    let low = byte_at(s, p, k as usize);
-    let high = byte_at(s, p, k as usize + 1);
-    wide(low) + 256 * wide(high)
-}
-
-fn number(w: u16) -> usize
-    ensures { result ≡ w }
-{
-    w as usize
+    match s.get(p.saturating_add(usize::from(k))..) {
+        Some([low, high, ..]) => u16::from_le_bytes([*low, *high]),
+        Some([low]) => u16::from(*low),
+        _ => 0,
+    }
 }
 
 // The same as a record's number.
 pub fn part_at(s: &[u8], p: usize, k: u8) -> usize
     ensures { result ≡ word_at s.now p k }
 {
-    number(word_at(s, p, k))
+    usize::from(word_at(s, p, k))
 }
 
 // ---- kinds and lengths
 
 // Document 01's table of kinds, with the pair kind; the ranges between are reserved.
-pub fn kind_of(kind: u16) -> Kind
-    ensures { result ≡ kind_of kind }
-{
-    match kind {
-        0 => Kind::Reserved,
-        1 => Kind::Construct(4),
-        2 => Kind::Construct(5),
-        3 => Kind::Construct(6),
-        4 => Kind::Construct(8),
-        5 => Kind::Construct(8),
-        6 => Kind::Construct(6),
-        7 => Kind::Construct(8),
-        8 => Kind::Construct(8),
-        9..=15 => Kind::Reserved,
-        16 => Kind::Pair(8),
-        17..=65535 => Kind::Reserved,
+impl From<u16> for Kind {
+    #[tactic(auto, using(crate::proofs::KindTable::kind_reserved), unfolding(crate::specs::Kinds::kind_of))]
+    fn from(kind: u16) -> Kind
+        ensures { result ≡ kind_of kind }
+    {
+        match kind {
+            0 => Kind::Reserved,
+            1 => Kind::Construct(4),
+            2 => Kind::Construct(5),
+            3 => Kind::Construct(6),
+            4 => Kind::Construct(8),
+            5 => Kind::Construct(8),
+            6 => Kind::Construct(6),
+            7 => Kind::Construct(8),
+            8 => Kind::Construct(8),
+            9..=15 => Kind::Reserved,
+            16 => Kind::Pair(8),
+            17..=65535 => Kind::Reserved,
+        }
     }
 }
 
-// The length of a record of this kind in a file that holds `contents`; 0 where the kind is not in its list.
-pub fn length_in(contents: Contents, kind: Kind) -> u16
-    ensures { result ≡ length_in contents kind }
-{
-    match kind {
-        Kind::Construct(length) => match contents {
-            Contents::Expressions => length,
-            Contents::Pairs => 0,
-        },
-        Kind::Pair(length) => match contents {
-            Contents::Expressions => 0,
-            Contents::Pairs => length,
-        },
-        Kind::Reserved => 0,
+impl Contents {
+    // The length of a record of this kind, where the kind is in the file's list.
+    pub fn length_of(self, kind: Kind) -> Option<u16>
+        ensures { result ≡ length_in self kind }
+    {
+        match (self, kind) {
+            (Contents::Expressions, Kind::Construct(length)) => Some(length),
+            (Contents::Pairs, Kind::Pair(length)) => Some(length),
+            _ => None,
+        }
     }
-}
 
-// How many records a file may hold.
-pub fn most(contents: Contents) -> usize
-    ensures { result ≡ most_of contents }
-{
-    match contents {
-        Contents::Expressions => 1024,
-        Contents::Pairs => 256,
+    // How many records such a file may hold.
+    pub fn most(self) -> usize
+        ensures { result ≡ most_of self }
+    {
+        match self {
+            Contents::Expressions => 1024,
+            Contents::Pairs => 256,
+        }
     }
 }
 
 // ---- what a record of an expression file says
 
-// The construct and body of the record at `p`; silent for a kind that is no construct.
+// The construct and body of the record at `p`; silent for a kind that is no construct. A look-up by halving reads a record at each step, so it is
+// inlined there.
+#[inline(always)]
+#[tactic(auto, using(crate::proofs::Constructs::node_silent), unfolding(crate::specs::Constructs::node_at, crate::specs::Constructs::node_of))]
 pub fn node_at(s: &[u8], p: usize) -> Node
     ensures { result ≡ node_at s.now p }
 {
-    let kind = word_at(s, p, 2);
-    match kind {
+    match word_at(s, p, 2) {
         2 => Node::Event(byte_at(s, p, 4)),
         3 => Node::Not(part_at(s, p, 4)),
         4 => Node::Either(part_at(s, p, 4), part_at(s, p, 6)),
@@ -158,66 +141,39 @@ pub fn earlier(node: Node, count: usize) -> bool
     ensures { result ≡ earlier_in count node }
 {
     match node {
-        Node::Silent => true,
-        Node::Event(_) => true,
-        Node::Not(x) => x < count,
-        Node::Either(x, y) => x < count && y < count,
-        Node::Then(x, y) => x < count && y < count,
-        Node::Repeat(x) => x < count,
-        Node::Notify(x, _) => x < count,
-        Node::Try(x, y) => x < count && y < count,
-    }
-}
-
-fn keyed(kind: u8, x: usize, y: u64) -> Key
-    ensures { (result.kind ≡ kind) × (result.x ≡ x) × (result.y ≡ y) }
-{
-    Key { kind, x, y }
-}
-
-pub fn key_of(node: Node) -> Key
-    ensures { result ≡ key_of node }
-{
-    match node {
-        Node::Silent => keyed(1, 0, 0),
-        Node::Event(e) => keyed(2, e as usize, 0),
-        Node::Not(x) => keyed(3, x, 0),
-        Node::Either(x, y) => keyed(4, x, y as u64),
-        Node::Then(x, y) => keyed(5, x, y as u64),
-        Node::Repeat(x) => keyed(6, x, 0),
-        Node::Notify(x, set) => keyed(7, x, set as u64),
-        Node::Try(x, y) => keyed(8, x, y as u64),
+        Node::Silent | Node::Event(_) => true,
+        Node::Not(x) | Node::Repeat(x) | Node::Notify(x, _) => x < count,
+        Node::Either(x, y) | Node::Then(x, y) | Node::Try(x, y) => x < count && y < count,
     }
 }
 
 // ---- one record at a place
 
 // What stands at `pos`, where `count` records stand before it: 7, 2 (header), 3, 4, 2 (whole), in this order.
-pub fn next_record(s: &[u8], contents: Contents, pos: usize, count: usize) -> Next
+#[tactic(auto, unfolding(crate::specs::Next::next_at))]
+pub fn next_record(s: &[u8], contents: Contents, pos: usize, count: usize) -> Result<Next, Refusal>
     ensures { result ≡ next_at s.now contents pos count }
 {
     let n = s.len();
     if n <= pos {
-        return Next::End;
+        return Ok(Next::End);
     }
-    if most(contents) <= count {
-        return Next::Refused(7);
+    if contents.most() <= count {
+        return Err(Refusal::TooManyRecords);
     }
     let left = n - pos;
     if left < 4 {
-        return Next::Refused(2);
+        return Err(Refusal::CutShort);
     }
-    let want = length_in(contents, kind_of(word_at(s, pos, 2)));
-    if want == 0 {
-        return Next::Refused(3);
+    let Some(want) = contents.length_of(Kind::from(word_at(s, pos, 2))) else {
+        return Err(Refusal::UnknownKind);
+    };
+    if word_at(s, pos, 0) != want {
+        return Err(Refusal::WrongLength);
     }
-    let length = word_at(s, pos, 0);
-    if length != want {
-        return Next::Refused(4);
+    let length = usize::from(want);
+    if left < length {
+        return Err(Refusal::CutShort);
     }
-    let step = number(length);
-    if left < step {
-        return Next::Refused(2);
-    }
-    Next::Record(pos + step)
+    Ok(Next::Record(pos + length))
 }

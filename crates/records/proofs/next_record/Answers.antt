@@ -1,33 +1,17 @@
--- `records::next_record` meets its contract: at each return, what is returned stands at the place.
+-- `records::next_record` meets its contract: the length that the table of kinds gives decides the last tests.
 use mathlib.Core.Path.{◌≡◌}
 use native.Mathlib.Omega.{arith}
-use Rattle.records.specs.Says.{wanted}
-use Rattle.records.specs.Says.{Stands.ended, Stands.too_many, Stands.no_header, Stands.not_listed, Stands.wrong_length, Stands.cut_short}
-use Rattle.records.specs.Says.{Stands.whole}
-use Rattle.records.proofs.Says.{stands_next}
+use Rattle.records.specs.Fields.{word_at}
+use Rattle.records.specs.Says.{Stands.wrong_length, Stands.whole}
+use Rattle.records.proofs.Says.{stands_next, listed_length}
 use Rattle.records.proofs.next_record.Goals as goal
 
-pub returns-then-n-pos : goal.returns-then-n-pos
-returns-then-n-pos c = stands_next (ended (omega arith))
-
-pub returns-then-most-count : goal.returns-then-most-count
-returns-then-most-count c = stands_next (too_many (omega arith) (omega arith))
-
-pub returns-then-left-lt4 : goal.returns-then-left-lt4
-returns-then-left-lt4 c = stands_next (no_header (omega arith) (omega arith))
-
-pub returns-then-want-eq0 : goal.returns-then-want-eq0
-returns-then-want-eq0 c = let w : c.length_in-want.result ≡ wanted c.args.s.now c.args.contents c.args.pos = cc in
-    stands_next (not_listed (omega arith) (omega arith))
-
-pub returns-then-length-want : goal.returns-then-length-want
-returns-then-length-want c = let w : c.length_in-want.result ≡ wanted c.args.s.now c.args.contents c.args.pos = cc in
+pub returns-then-word_at-want : goal.returns-then-word_at-want
+returns-then-word_at-want c = let l = listed_length c.args.s.now c.args.contents c.args.pos c.in-Some.want (cc) in
     stands_next (wrong_length (omega arith) (omega arith))
 
-pub returns-then-left-step : goal.returns-then-left-step
-returns-then-left-step c = let w : c.length_in-want.result ≡ wanted c.args.s.now c.args.contents c.args.pos = cc in
-    stands_next (cut_short (omega arith) (omega arith))
-
 pub returns : goal.returns
-returns c = let w : c.length_in-want.result ≡ wanted c.args.s.now c.args.contents c.args.pos = cc in
-    rw (c.number-step.ensures, c.word_at-length.ensures) (stands_next (whole (omega arith) (omega arith)))
+returns c =
+    let l = listed_length c.args.s.now c.args.contents c.args.pos c.in-Some.want (cc) in
+    let same : word_at c.args.s.now c.args.pos 0 ≡ c.in-Some.want = omega arith in
+    rw (c.from-length.ensures, ← same) (stands_next (whole (omega arith) (omega arith)))
