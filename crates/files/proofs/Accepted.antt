@@ -19,6 +19,7 @@ use Rattle.records.specs.declared.Contents.TheVariants.{Expressions, Pairs}
 use Rattle.records.specs.Fields.{word_at}
 use Rattle.records.specs.Constructs.{InRange}
 use Rattle.records.specs.Walk.{Found, found}
+use Rattle.records.proofs.Refusals.{refusal_some}
 use Rattle.records.specs.Says.{Sound, Sound.start, Sound.passed, Sound.counted}
 use Rattle.records.specs.Says.{Says, Says.accepted, Says.empty, Says.refused, Says.body_refused}
 use Rattle.records.proofs.Constructs.{node_range}
@@ -57,7 +58,7 @@ says_sound : {s : List ℕ} {contents : Contents} {Body : ℕ → List ℕ → �
     → Sound s contents Body f.places f.place
 says_sound (accepted before stands some) = before
 says_sound (empty before stands) = before
-says_sound (refused before stands) = before
+says_sound (refused before stands e) = before
 says_sound (body_refused before stands fault) = before
 
 pub read_file : (s : List ℕ) → File (length (reading s).places) (node_in s (reading s).places)
@@ -71,7 +72,7 @@ accepted_file s e = read_file s
 says_some : {s : List ℕ} {contents : Contents} {Body : ℕ → List ℕ → ℕ → Type 0} {pos : ℕ} {ps : List ℕ} → Says s contents Body (found 0 pos ps)
     → 1 ≤ length ps
 says_some (accepted before stands some) = some
-says_some (refused _ e) = elim e [ ]
+says_some (refused {r = r} before stands e) = absurd (refusal_some r e)
 
 pub accepted_some : (s : List ℕ) → (reading s).number ≡ 0 → 1 ≤ length (reading s).places
 accepted_some s e = says_some (with_number (reading_says s) e)

@@ -1,22 +1,23 @@
 -- The number that a record's body gets: `expression_body` and `pair_body` compute the one that ExpressionBody and PairBody give.
 use Prim.Native.Nat.{ℕ, zero, suc, ◌<◌, ◌≤◌}
-use mathlib.Core.Path.{◌≡◌, refl, ap}
+use mathlib.Core.Path.{◌≡◌, refl, sym, ◌∙◌}
 use mathlib.Core.Logic.{◌⊎◌, ◌⊎◌.inl, ◌⊎◌.inr, ⊎_elim}
 use mathlib.Core.List.{List, [], ◌∷◌}
-use mathlib.Core.Bool.{Bool, true, false, cond, ◌&&◌, ◌||◌}
+use mathlib.Core.Bool.{Bool, true, false, cond, ◌&&◌, ◌||◌, true≢false}
 use native.Mathlib.Omega.{arith}
 use borrow.Author.Tests.{eqb-true, eqb-false, leb-true, leb-false}
 use lib.ListN.{length, get_or}
 use lib.Dec.{leb, eqb}
 use Rattle.par.specs.declared.Node.{Node}
+use Rattle.par.specs.Nodes.{same_node}
 use Rattle.par.specs.Records.{Parts}
-use Rattle.records.specs.declared.Key.{Key}
+use Rattle.par.proofs.Nodes.{same_node_lem}
 use Rattle.records.specs.Fields.{word_at}
-use Rattle.records.specs.Constructs.{node_at, earlier_in, key_of}
-use Rattle.records.proofs.Constructs.{earlier_parts, key_one}
+use Rattle.records.specs.Constructs.{node_at, earlier_in}
+use Rattle.records.proofs.Constructs.{earlier_parts}
 use Rattle.files.specs.Reading.{ExpressionBody, ExpressionBody.not_earlier, ExpressionBody.same_again, ExpressionBody.new}
 use Rattle.files.specs.Reading.{PairBody, PairBody.not_there, PairBody.there}
-use Rattle.files.specs.Reading.{same_key, seen_in, expression_body, pair_body}
+use Rattle.files.specs.Reading.{seen_in, expression_body, pair_body}
 
 -- ---- what a test tells
 
@@ -50,11 +51,6 @@ leb_tells a b = told (leb a b) (leb-true a b, λ e h. omega (arith, leb-false a 
 
 -- ---- whether a record has this kind and body
 
-key_tells : (a b : Key) → Tells (a ≡ b) (same_key a b)
-key_tells a b =
-    tells_same (λ e. λ i. record { kind = e.0 i; x = e.1.0 i; y = e.1.1 i }) (λ e. (cc, (cc, cc)))
-    (tells_and (eqb_tells a.kind b.kind) (tells_and (eqb_tells a.x b.x) (eqb_tells a.y b.y)))
-
 -- a record at one of the places is m
 abbrev Seen : List ℕ → Node → List ℕ → Type 0
 Seen s m ps = (j : ℕ) × (j < length ps) × (node_at s (get_or ps j 0) ≡ m)
@@ -64,10 +60,12 @@ seen_cases : (s : List ℕ) (m : Node) (p : ℕ) (ps : List ℕ) (j : ℕ) → j
 seen_cases s m p ps zero h e = inl e
 seen_cases s m p ps (suc j) h e = inr (j, omega arith, e)
 
-node_tells : (m k : Node) → Tells (m ≡ k) (same_key (key_of m) (key_of k))
-node_tells m k = tells_same (key_one m k) (ap key_of) (key_tells (key_of m) (key_of k))
+node_tells : (m k : Node) → Tells (m ≡ k) (same_node m k)
+node_tells m k =
+    let decides = same_node_lem m k in
+    told (same_node m k) (decides.0, λ e same. true≢false (sym (decides.1 same) ∙ e))
 
-seen_tells : (s : List ℕ) (m : Node) (ps : List ℕ) → Tells (Seen s m ps) (seen_in s (key_of m) ps)
+seen_tells : (s : List ℕ) (m : Node) (ps : List ℕ) → Tells (Seen s m ps) (seen_in s m ps)
 unfolding seen_in
 seen_tells s m [] = fails (λ h. let l = h.1 in omega arith)
 seen_tells s m (p ∷ ps) =

@@ -4,7 +4,7 @@ use mathlib.Core.Path.{◌≡◌, refl, sym, ◌∙◌}
 use mathlib.Core.List.{List}
 use mathlib.Core.Bool.{Bool, true, false}
 use native.Mathlib.Omega.{arith}
-use borrow.Author.Count.{below_none, below_more}
+use borrow.Author.Count.{below_more}
 use borrow.Author.Tests.{ltb-true, ltb-false}
 use lib.Dec.{ltb}
 use lib.ListN.{length, get_or, set, length-set}
@@ -50,9 +50,6 @@ size_step node n earlier sizes r h before =
 -- the records that a record names are among any that reach up to it
 pub parts_below : (node : ℕ → Node) (n : ℕ) → Earlier node n → (r m : ℕ) → r < n → r ≤ m → Parts (λ p. p < m) (node r)
 parts_below node n earlier r m h l = parts_map {P = λ p. p < r} {Q = λ p. p < m} (λ p q. omega arith) (node r) (earlier r h)
-
-pub sized_start : (node : ℕ → Node) (was : List ℕ) → Sized node 0 was was
-sized_start node was = record { long = refl; filled = below_none _; behind = λ i h. refl }
 
 pub sized_more : (node : ℕ → Node) (n : ℕ) → Earlier node n → (was is : List ℕ) (j v : ℕ) → j < n → j < length is
     → Sized node j was is → v ≡ size_from (λ p. get_or is p 0) (node j) → Sized node (j + 1) was (set is j v)

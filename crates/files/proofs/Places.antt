@@ -5,7 +5,7 @@ use mathlib.Core.Path.{◌≡◌, sym, ap, ◌∙◌}
 use mathlib.Core.List.{List}
 use native.Mathlib.Omega.{arith}
 use lib.ListN.{length, take, drop, length-append}
-use lib.Seq.{take-append_seam, length-take-le}
+use lib.Seq.{take-append_seam}
 use Rattle.records.specs.Walk.{Found, ReadTo}
 use Rattle.files.specs.Reading.{reading}
 use Rattle.files.specs.Rule.{node_in, Earlier}
@@ -25,10 +25,5 @@ readto_one p q =
     (p.number_is ∙ sym q.number_is, p.count_is ∙ sym q.count_is, p.place_is ∙ sym q.place_is, p.table_is ∙ sym q.table_is)
 
 pub records_ready : (s : List ℕ) {number count place : ℕ} {was is : List ℕ} → ReadTo (reading s) number count place was is → number ≡ 0
-    → ((1 ≤ count) × (count ≤ 1024) × (count ≤ length (take count is))) × Earlier (node_in s (take count is)) count
-records_ready s {number} {count} {place} {was} {is} r e =
-    let c = r.count_is in
-    let some = accepted_some s (sym r.number_is ∙ e) in (
-      (omega arith, omega (arith, few s), rw (length-take-le count is (places_fit r)) (omega arith)),
-      λ q h. rw (places_read r) ((read_file s).earlier q (omega arith)),
-    )
+    → ((1 ≤ length (take count is)) × (length (take count is) ≤ 1024)) × Earlier (node_in s (take count is)) (length (take count is))
+records_ready s r e = rw (places_read r) ((accepted_some s (sym r.number_is ∙ e), few s), (read_file s).earlier)

@@ -1,10 +1,11 @@
 -- The two files (document 01, "Expression file", "Pair file"): what a record's body must meet, and what reading the whole file finds.
-use Rattle.std.specs.Prelude.{ℕ, ◌<◌, ◌≡◌, ◌≢◌, List, [], ◌∷◌, Bool, false, cond, ◌&&◌, ◌||◌, length, get_or, leb, eqb}
+use Rattle.std.specs.Prelude.{ℕ, ◌<◌, ◌≡◌, ◌≢◌, List, [], ◌∷◌, Bool, false, cond, ◌||◌, length, get_or, leb}
+use Rattle.par.specs.declared.Node.{Node}
+use Rattle.par.specs.Nodes.{same_node}
 use Rattle.par.specs.Records.{Parts}
 use Rattle.records.specs.declared.Contents.TheVariants.{Expressions, Pairs}
 use Rattle.records.specs.Fields.{word_at}
-use Rattle.records.specs.declared.Key.{Key}
-use Rattle.records.specs.Constructs.{node_at, earlier_in, key_of}
+use Rattle.records.specs.Constructs.{node_at, earlier_in}
 use Rattle.records.specs.Walk.{Found, turn, walked}
 
 -- ---- the expression file
@@ -17,16 +18,13 @@ pub data ExpressionBody (s : List ℕ) (pos : ℕ) (ps : List ℕ) : ℕ → Typ
   new : Parts (λ p. p < length ps) (node_at s pos) → ((j : ℕ) → j < length ps → node_at s (get_or ps j 0) ≢ node_at s pos)
       → ExpressionBody s pos ps 0
 
-abbrev pub same_key : Key → Key → Bool
-same_key a b = eqb a.kind b.kind && (eqb a.x b.x && eqb a.y b.y)
-
 -- a record at one of the places has this kind and body
-unfoldable pub seen_in : List ℕ → Key → List ℕ → Bool
-seen_in s k [] = false
-seen_in s k (p ∷ ps) = same_key (key_of (node_at s p)) k || seen_in s k ps
+unfoldable pub seen_in : List ℕ → Node → List ℕ → Bool
+seen_in s m [] = false
+seen_in s m (p ∷ ps) = same_node (node_at s p) m || seen_in s m ps
 
 unfoldable pub expression_body : List ℕ → ℕ → List ℕ → ℕ
-expression_body s pos ps = cond (earlier_in (length ps) (node_at s pos)) (cond (seen_in s (key_of (node_at s pos)) ps) 6 0) 5
+expression_body s pos ps = cond (earlier_in (length ps) (node_at s pos)) (cond (seen_in s (node_at s pos) ps) 6 0) 5
 
 unfoldable pub reading : List ℕ → Found
 reading s = walked (turn s Expressions (expression_body s)) (length s)

@@ -4,16 +4,12 @@ use Rattle.par.specs.declared.Node.{Node}
 use Rattle.par.specs.declared.Node.TheVariants.{Silent, Event, Not, Either, Then, Repeat, Notify, Try}
 use Rattle.par.specs.Expr.{Expr, size}
 use Rattle.par.specs.Records.{Parts, expr}
-use Rattle.records.specs.declared.Key.{Key}
-use Rattle.records.specs.Constructs.{node_at, key_of}
+use Rattle.records.specs.Constructs.{node_at}
 use Rattle.files.specs.Reading.{reading}
 
 -- record r of a file whose records stand at the places ps
 unfoldable pub node_in : List ℕ → List ℕ → ℕ → Node
 node_in s ps r = node_at s (get_or ps r 0)
-
-unfoldable pub key_in : List ℕ → List ℕ → ℕ → Key
-key_in s ps r = key_of (node_in s ps r)
 
 -- each of the first n records names earlier ones
 abbrev pub Earlier : (ℕ → Node) → ℕ → Type 0

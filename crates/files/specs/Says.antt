@@ -7,7 +7,8 @@ use Rattle.records.specs.declared.Contents.TheVariants.{Expressions, Pairs}
 use Rattle.records.specs.Fields.{word_at}
 use Rattle.records.specs.Kinds.{most_of}
 use Rattle.records.specs.Constructs.{node_at}
-use Rattle.records.specs.Says.{wanted, Room, Header, Listed, Measured, Sound}
+use Rattle.records.specs.Next.{wanted}
+use Rattle.records.specs.Says.{Room, Header, Listed, Measured, Sound}
 use Rattle.files.specs.Reading.{ExpressionBody, PairBody}
 
 -- ---- every file
