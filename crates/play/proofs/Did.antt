@@ -9,7 +9,8 @@ use Rattle.par.specs.Expr.{Expr, join}
 use Rattle.par.specs.Step.{status as status_of, notices as notices_of, lines as lines_of, remainder}
 use Rattle.play.specs.Mirror.Masks.{bit}
 use Rattle.play.proofs.Compared.{upto, Clear, Agree, Same}
-use Rattle.play.specs.Mirror.Down.{Words, Made}
+use Rattle.play.specs.declared.ends.Words.{Words}
+use Rattle.play.specs.Mirror.Down.{Made}
 use Rattle.play.specs.Mirror.Step.{met_at}
 use Rattle.play.proofs.Plays.{Plays}
 use Rattle.play.proofs.Counts.{upto_on}
@@ -43,7 +44,7 @@ pub record Ready (F : List ℕ) (L R T a A lo r : ℕ) (st : Words) : Type 0 whe
 -- after them
 pub record Did (F G : List ℕ) (L R a lo r : ℕ) (e : Expr) (st : Words) (m : Made) : Type 0 where
   pub status : m.status ≡ status_of e a
-  pub sent : m.after.sent ≡ join st.sent (notices_of e a)
+  pub sent : m.after.notices ≡ join st.notices (notices_of e a)
   pub lines : (M : ℕ) → Agree lo r m.after.counted M → upto M (suc r) ≡ upto M lo + lines_of e a
   pub plays : status_of e a ≡ Waiting → Plays F G L R m.after.active m.after.going lo r (remainder e a)
   pub off : done (status_of e a) ≡ true → Clear m.after.active lo r

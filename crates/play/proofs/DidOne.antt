@@ -15,7 +15,8 @@ use Rattle.par.proofs.Sets.{join_assoc, join_none}
 use Rattle.play.specs.Mirror.Masks.{bit, one, less}
 use Rattle.play.proofs.Compared.{upto, Agree, Only}
 use Rattle.play.specs.Mirror.Nodes.{first_at, gain_at}
-use Rattle.play.specs.Mirror.Down.{Words, words, Made, made, one_status, one_active, one_going, one_sent, one_end}
+use Rattle.play.specs.declared.ends.Words.{Words}
+use Rattle.play.specs.Mirror.Down.{words, Made, made, one_status, one_active, one_going, one_sent, one_end}
 use Rattle.play.proofs.Plays.{None, One, Plays, Plays.silent, Plays.event}
 use Rattle.play.proofs.Digits.{less_self}
 use Rattle.play.proofs.Ranges.{same_self, same_less, only_wider, agree_within, clear_one}
@@ -38,7 +39,7 @@ module _ {F : List ℕ} {L R T a A r : ℕ} {st : Words} (before : Ready F L R T
   silent_did at l =
       record {
         status = refl;
-        sent = sym (join_none st.sent);
+        sent = sym (join_none st.notices);
         lines = leaf_lines;
         plays = λ w. silent at l leaf_play;
         off = λ (w : false ≡ true). absurd (false≢true w);
@@ -52,7 +53,7 @@ module _ {F : List ℕ} {L R T a A r : ℕ} {st : Words} (before : Ready F L R T
   event_idle {b = b} at l i c =
       record {
         status = rw c refl;
-        sent = sym (join_none st.sent);
+        sent = sym (join_none st.notices);
         lines = leaf_lines;
         plays = λ w. rw c (event at l i leaf_play);
         off = λ w. absurd (false≢true (rw c at w));
@@ -60,12 +61,12 @@ module _ {F : List ℕ} {L R T a A r : ℕ} {st : Words} (before : Ready F L R T
       }
 
   pub event_did : {G : List ℕ} {b : ℕ} → None F 2 r → eqb b a ≡ true
-      → Did F G L R a r r (Event b) st (made Success (words (less st.active (one r)) st.going st.counted st.sent))
+      → Did F G L R a r r (Event b) st (made Success (words (less st.active (one r)) st.going st.counted st.notices))
   unfolding status_of notices_of lines_of remainder
   event_did {b = b} at c =
       record {
         status = rw c refl;
-        sent = sym (join_none st.sent);
+        sent = sym (join_none st.notices);
         lines = leaf_lines;
         plays = λ w. absurd (success_waiting (rw c at w));
         off = λ w. clear_one (less_self st.active r);
@@ -98,7 +99,7 @@ one_did {a = a} {lo = lo} {r = r} {st = st} {d = d} {m = m} kind gain u within b
     rw g.status
     (record {
       status = i;
-      sent = rw g.sent (one_sends kind s gain st.sent (notices_of d a) ∙ ap (join st.sent) j);
+      sent = rw g.sent (one_sends kind s gain st.notices (notices_of d a) ∙ ap (join st.notices) j);
       lines = lines;
       plays = plays;
       off = λ w. one_off kind s gain m.after.active (rw i w);

@@ -14,7 +14,8 @@ use Rattle.par.proofs.Sets.{join_assoc}
 use Rattle.play.specs.Mirror.Masks.{bit, clear}
 use Rattle.play.proofs.Compared.{upto, Clear, Agree, Same, Only}
 use Rattle.play.specs.Mirror.Nodes.{gain_at}
-use Rattle.play.specs.Mirror.Down.{Words, Made, one_status, one_end, both_status, both_counted, both_end}
+use Rattle.play.specs.declared.ends.Words.{Words}
+use Rattle.play.specs.Mirror.Down.{Made, one_status, one_end, both_status, both_counted, both_end}
 use Rattle.play.proofs.Plays.{Two, Plays}
 use Rattle.play.proofs.Counts.{upto_flat, upto_clear}
 use Rattle.play.proofs.Ranges.{same_self, same_wider, same_clear, only_wider, agree_on, agree_within, agree_before, agree_behind}
@@ -122,8 +123,8 @@ module _ {F G : List ℕ} {L R T a A lo x y : ℕ} {st : Words} {d e : Expr} {m 
   both_at : At R A (suc y) k.after
   both_at = at_behind (omega arith) (omega arith) before both_beside
 
-  both_sent : k.after.sent ≡ join st.sent (join (notices_of d a) (notices_of e a))
-  both_sent = h.sent ∙ rw g.sent (sym (join_assoc st.sent (notices_of d a) (notices_of e a)))
+  both_sent : k.after.notices ≡ join st.notices (join (notices_of d a) (notices_of e a))
+  both_sent = h.sent ∙ rw g.sent (sym (join_assoc st.notices (notices_of d a) (notices_of e a)))
 
   -- the second part did not touch the first's
   both_plays : status_of d a ≡ Waiting → Plays F G L R k.after.active k.after.going lo x (remainder d a)

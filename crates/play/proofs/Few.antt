@@ -11,7 +11,8 @@ use Rattle.play.specs.declared.ways.Route.{Route}
 use Rattle.play.specs.declared.ways.Route.TheVariants.{Silent, One, First, Second, Both, Left, Right}
 use Rattle.play.specs.Mirror.Masks.{clear}
 use Rattle.play.specs.Mirror.Nodes.{kind_at, first_at, gain_at}
-use Rattle.play.specs.Mirror.Down.{Words, Made, route_of, one_end, try_counted, both_counted, both_end, taken, down}
+use Rattle.play.specs.declared.ends.Words.{Words}
+use Rattle.play.specs.Mirror.Down.{Made, route_of, one_end, try_counted, both_counted, both_end, taken, down}
 use Rattle.play.specs.Mirror.Step.{comes, moved_by, stepped_by, stepped}
 use Rattle.play.proofs.Tests.{by_test}
 use Rattle.play.proofs.Digits.{less_small}

@@ -12,7 +12,8 @@ use Rattle.play.specs.declared.ways.Route.TheVariants.{Silent, One as OneWay}
 use Rattle.play.specs.Mirror.Masks.{bit, hit}
 use Rattle.play.proofs.Compared.{Clear}
 use Rattle.play.specs.Mirror.Nodes.{kind_at, first_at, gain_at}
-use Rattle.play.specs.Mirror.Down.{Words, pair_route, route_of, taken, came, down}
+use Rattle.play.specs.declared.ends.Words.{Words}
+use Rattle.play.specs.Mirror.Down.{pair_route, route_of, taken, came, down}
 use Rattle.play.proofs.Plays.{One, Two}
 use Rattle.play.proofs.Digits.{and_false}
 use Rattle.play.proofs.Spans.{hit_false, hit_clear}

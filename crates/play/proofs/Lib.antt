@@ -21,6 +21,6 @@ pub mod Counts
 pub mod Spans
 pub mod Digits
 pub mod Routes
-pub mod Words
 pub mod Shifts
 pub mod Tests
+pub mod KindNumbers

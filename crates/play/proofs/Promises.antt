@@ -8,7 +8,8 @@ use Rattle.par.specs.Expr.{Expr}
 use Rattle.play.specs.Said.{remains}
 use Rattle.play.specs.Mirror.Masks.{both, hit}
 use Rattle.play.proofs.Compared.{Clear}
-use Rattle.play.specs.Mirror.Down.{Words, made, down}
+use Rattle.play.specs.declared.ends.Words.{Words}
+use Rattle.play.specs.Mirror.Down.{made, down}
 use Rattle.play.specs.Mirror.Step.{comes, stepped}
 use Rattle.play.proofs.Plays.{Plays, Stands}
 use Rattle.play.proofs.Whole.{Good}
@@ -18,6 +19,9 @@ use Rattle.play.proofs.Did.{Ready, Did}
 use Rattle.play.proofs.Right
 use Rattle.play.proofs.Comes
 use Rattle.play.proofs.Few
+use Rattle.play.specs.declared.kinds.Kind.{Kind}
+use Rattle.play.specs.Mirror.Nodes.{kind_number}
+use Rattle.play.proofs.KindNumbers
 
 -- ---- One event on a whole rule is what the figures say: it gives the status, notices and lines of the expression that the two words stand for, and
 -- leaves words that stand for what remains of it
@@ -64,3 +68,8 @@ lines_few = Few.lines_few
 pub finished : (F G : List ℕ) (L R root a : ℕ)
     → stepped F G L R root a 0 ≡ record { status = Waiting; notices = 0; lines = 1; active = 0; going = 0 }
 finished = Whole.finished
+
+-- ---- A kind is known by its number
+
+pub kind_one : (k k' : Kind) → kind_number k ≡ kind_number k' → k ≡ k'
+kind_one k k' = KindNumbers.kind_one

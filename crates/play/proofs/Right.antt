@@ -14,7 +14,8 @@ use Rattle.play.specs.declared.ways.Route.TheVariants.{Both, Left, Right}
 use Rattle.play.specs.Mirror.Masks.{bit, hit}
 use Rattle.play.proofs.Compared.{Clear}
 use Rattle.play.specs.Mirror.Nodes.{first_at, gain_at}
-use Rattle.play.specs.Mirror.Down.{Words, Made, made, pair_route, one_status, one_active, one_going, one_sent, one_end}
+use Rattle.play.specs.declared.ends.Words.{Words}
+use Rattle.play.specs.Mirror.Down.{Made, made, pair_route, one_status, one_active, one_going, one_sent, one_end}
 use Rattle.play.specs.Mirror.Down.{both_status, left_active, both_active, try_counted, both_counted, both_end, down}
 use Rattle.play.proofs.Plays.{Two, Plays}
 use Rattle.play.proofs.Plays.{Plays.silent, Plays.event, Plays.not, Plays.notify, Plays.repeat_fresh, Plays.repeat_going}

@@ -1,73 +1,44 @@
--- Where the parts of a node stand, by the route that it takes, on any nodes whatever; and one event by the route.
-use Prim.Native.Nat.{ℕ, zero, suc, ◌+◌, ◌-◌, ◌/◌, ◌%◌, ◌≤◌, ◌<◌}
-use mathlib.Core.Path.{◌≡◌}
+-- One event downwards, by the route that the node takes, on any nodes whatever.
+use Prim.Native.Nat.{ℕ, zero, suc, ◌/◌, ◌%◌, ◌≤◌, ◌<◌}
+use mathlib.Core.Path.{◌≡◌, refl}
 use mathlib.Core.List.{List}
 use native.Mathlib.Omega.{arith}
-use lib.Dec.{eqb, leb, ltb}
+use lib.Dec.{ltb}
 use lib.ListN.{get_or}
-use borrow.Author.Tests.{ltb-false, leb-false, eq-eqb, ne_eqb}
+use borrow.Author.Tests.{ltb-true, le-ltb, eq-eqb, ne_eqb}
+use Rattle.play.specs.declared.ends.Words.{Words}
 use Rattle.play.specs.declared.ways.Route.{Route}
-use Rattle.play.specs.declared.ways.Route.TheVariants.{Silent, One, First, Second, Both, Left, Right}
-use Rattle.play.specs.Mirror.Masks.{bit, hit}
-use Rattle.play.specs.Mirror.Nodes.{kind_at, first_at, gain_at}
-use Rattle.play.specs.Mirror.Down.{words_in, met_in, pair_route, route_of, taken, came, down, Makes, Downs}
+use Rattle.play.specs.Mirror.Nodes.{kind_at, first_at, gain_at, known_kind}
+use Rattle.play.specs.Mirror.Down.{Made, route_of, taken, came, down}
 use Rattle.play.proofs.Tests.{by_test}
 
--- the first part in lo .. r - 1
-pub record InFirst (lo x r : ℕ) : Type 0 where
-  pub within : lo ≤ x
-  pub below : x < r
+-- on a part that stands in lo .. r
+module _ (F G : List ℕ) (T : ℕ) (st : Words) {lo r a b : ℕ} {m : Made} where
+  pub down_part : a ≡ lo → b ≡ r → ((f : ℕ) → b < f → m ≡ down F G T f a b st) → (f : ℕ) → r < f → m ≡ down F G T f lo r st
+  down_part i j g f h = rw (← i, ← j) (g f (rw j h))
 
--- and the second after it
-pub record InBoth (lo x r : ℕ) : Type 0 where
-  pub within : lo ≤ x
-  pub apart : x + 1 < r
-
-abbrev pub Placed : ℕ → ℕ → ℕ → Route → Type 0
-Placed lo x r Silent = Unit {0}
-Placed lo x r One = InFirst lo x r
-Placed lo x r First = InBoth lo x r
-Placed lo x r Second = InBoth lo x r
-Placed lo x r Both = InBoth lo x r
-Placed lo x r Left = InBoth lo x r
-Placed lo x r Right = InBoth lo x r
-
-module _ (kind A T lo x r : ℕ) where
-  placed : Placed lo x r (route_of kind A T lo x r)
-  unfolding route_of pair_route
-  placed =
-      let Q = Placed lo x r in
-      by_test Q (ltb kind 3) (λ _. tt) λ _.
-      by_test Q (ltb 8 kind) (λ _. tt) λ _.
-      by_test Q (ltb x lo) (λ _. tt) λ within.
-      by_test Q (leb r x) (λ _. tt) λ below.
-      let at : InFirst lo x r = record { within = ltb-false x lo within; below = leb-false r x below } in
-      by_test Q (eqb kind 3) (λ _. at) λ _.
-      by_test Q (eqb kind 6) (λ _. at) λ _.
-      by_test Q (eqb kind 7) (λ _. at) λ _.
-      by_test Q (leb r (x + 1)) (λ _. tt) λ apart.
-      let both : InBoth lo x r = record { within = at.within; apart = leb-false r (x + 1) apart } in
-      by_test Q (bit A r)
-      (λ _. by_test Q (eqb kind 5) (λ _. at) λ _.
-      by_test Q (hit T lo x) (λ _. by_test Q (hit T (x + 1) (r - 1)) (λ _. both) (λ _. both)) (λ _. both))
-      (λ _. by_test Q (hit T lo x) (λ _. both) (λ _. both))
-
-  pub parts_placed : {k : Route} → route_of kind A T lo x r ≡ k → Placed lo x r k
-  parts_placed e = rw e at placed
-
--- one event on the words in a list
-module _ (F G : List ℕ) (lo r : ℕ) (l : List ℕ) where
+module _ (F G : List ℕ) (T lo r : ℕ) (st : Words) where
   -- where r is its only node
-  pub down_event : lo ≡ r → {s : ℕ} {l' : List ℕ} → Makes (came r (words_in l)) (met_in l) s l' → Downs F G lo r l s l'
+  pub down_event : lo ≡ r → (f : ℕ) → r < f → came r st ≡ down F G T f lo r st
   unfolding down
-  down_event i g zero h = absurd (omega arith)
-  down_event i g (suc f) h = rw (eq-eqb lo r i) g
+  down_event i zero h = absurd (omega arith)
+  down_event i (suc f) h = rw (eq-eqb lo r i) refl
+
+  -- a number that is no kind's is silent, as silent's own
+  known : (A x kind : ℕ) (go : ℕ → ℕ → Words → Made) (g : ℕ)
+      → taken go (route_of (known_kind kind) A T lo x r) (known_kind kind) g lo x r st ≡ taken go (route_of kind A T lo x r) kind g lo x r st
+  unfolding known_kind route_of
+  known A x kind go g =
+      let Q : ℕ → Type 0 = λ k. taken go (route_of k A T lo x r) k g lo x r st ≡ taken go (route_of kind A T lo x r) kind g lo x r st in
+      by_test Q (ltb kind 1) (λ i. let z : kind ≡ 0 = omega (arith, ltb-true kind 1 i) in rw z refl) λ _.
+      by_test Q (ltb 8 kind) (λ j. rw (le-ltb kind 3 (omega (arith, ltb-true 8 kind j)), j) refl) λ _.
+      refl
 
   -- by the route, where r has a part; x is the first
-  pub down_done : {x : ℕ} {k : Route} → lo < r → x ≡ get_or F r 0 / 256 → route_of (get_or F r 0 % 256) (get_or l 0 0) (met_in l) lo x r ≡ k
-      → (s : ℕ) (l' : List ℕ)
-      → ((f : ℕ) → r ≤ f → Makes (taken (down F G (met_in l) f) k (get_or F r 0 % 256) (get_or G r 0) lo x r (words_in l)) (met_in l) s l')
-      → Downs F G lo r l s l'
+  pub down_done : {x kind : ℕ} {k : Route} → lo < r → x ≡ get_or F r 0 / 256 → kind ≡ known_kind (get_or F r 0 % 256)
+      → k ≡ route_of kind st.active T lo x r → (m : Made) → ((f : ℕ) → r ≤ f → m ≡ taken (down F G T f) k kind (get_or G r 0) lo x r st)
+      → (f : ℕ) → r < f → m ≡ down F G T f lo r st
   unfolding down kind_at first_at gain_at
-  down_done h i e s l' g zero u = absurd (omega arith)
-  down_done h i e s l' g (suc f) u = rw (ne_eqb lo r (λ q. omega arith), ← i, e) (g f (omega arith))
+  down_done h i j e m g zero u = absurd (omega arith)
+  down_done {x} h i j e m g (suc f) u =
+      rw (ne_eqb lo r (λ q. omega arith), ← i, ← known st.active x (get_or F r 0 % 256) (down F G T f) (get_or G r 0), ← j, ← e) (g f (omega arith))

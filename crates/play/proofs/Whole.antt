@@ -18,7 +18,8 @@ use Rattle.par.proofs.Figure4.{finished as nothing_left}
 use Rattle.play.specs.declared.Moved.{Moved}
 use Rattle.play.specs.Mirror.Masks.{bit, both, hit}
 use Rattle.play.proofs.Compared.{upto, Only}
-use Rattle.play.specs.Mirror.Down.{Words, words, Made, made, down}
+use Rattle.play.specs.declared.ends.Words.{Words}
+use Rattle.play.specs.Mirror.Down.{words, Made, made, down}
 use Rattle.play.specs.Mirror.Step.{comes, rested, moved, moved_by, stepped_by, stepped}
 use Rattle.play.proofs.Plays.{Plays, Stands, Stands.goes, Stands.over}
 use Rattle.play.proofs.Digits.{and_true, bit_both, none_zero}

@@ -1,146 +1,89 @@
 // What a node makes of its parts' statuses: its own, and the words afterwards.
-ghost use Rattle.std.specs.Prelude.{◌≡◌, ◌+◌, ◌-◌, ◌≤◌, ◌<◌};
-ghost use Rattle.play.specs.Mirror.Down.{one_status, gained_active, one_active, one_going, one_sent, both_status, left_active, both_active, both_counted};
+ghost use Rattle.std.specs.Prelude.{◌≡◌, ◌+◌, ◌<◌, cond};
+ghost use Rattle.play.specs.Mirror.Nodes.{kind_number};
+ghost use Rattle.play.specs.Mirror.Down.{made, one_end, both_end};
+ghost use Rattle.par.specs.Status.{higher, tried};
 
+use crate::kinds::Kind;
 use crate::masks;
+use crate::span::Span;
 use par::Status;
 
-// ---- a node with one part that steps, whose status is s
-
-#[tactic(auto, unfolding(crate::specs::Mirror::Down::one_status))]
-pub fn one_status(kind: u16, s: Status) -> Status
-    ensures { result ≡ one_status kind s }
-{
-    if kind == 3 {
-        return par::opposite(s);
-    }
-    if kind == 7 {
-        return s;
-    }
-    match s {
-        Status::Waiting => Status::Waiting,
-        Status::Success => Status::Waiting,
-        Status::Failure => Status::Failure,
-    }
+// What a step changes: the nodes in play, the repeats under way, the nodes whose lines count, and the notices.
+#[derive(Clone, Copy)]
+pub struct Words {
+    pub active: u64,
+    pub going: u64,
+    pub counted: u64,
+    pub notices: u64,
 }
 
-// The part succeeded: a then goes on with its second part, a repeat has its body anew, any other has completed.
-#[tactic(auto, unfolding(crate::specs::Mirror::Masks::with))]
-fn gained(kind: u16, gain: u64, lo: usize, r: usize, active: u64) -> u64
-    requires { (lo ≤ r) × (r < 64) }
-    ensures { result ≡ gained_active kind gain lo r active }
+// The last node of a span, with one part that steps, whose status is s. Where it succeeds a then goes on with its second part, and a repeat has its body
+// anew.
+#[tactic(auto, unfolding(crate::specs::Mirror::Down::one_end, crate::specs::Mirror::Down::one_status, crate::specs::Mirror::Down::one_active, crate::specs::Mirror::Down::one_going, crate::specs::Mirror::Down::one_sent, crate::specs::Mirror::Masks::with, par::specs::Expr::join))]
+pub fn one_end(words: &mut Words, kind: Kind, gain: u64, span: Span, s: Status) -> Status
+    ensures { made result words.new ≡ one_end (kind_number kind) gain span.first span.last (made s words.old) }
 {
-    if kind == 5 {
-        return masks::without(active, masks::one(r)) | gain;
-    }
-    if kind == 6 {
-        return active | gain;
-    }
-    masks::clear(active, lo, r)
-}
-
-// The nodes in play.
-#[tactic(auto, unfolding(crate::specs::Mirror::Down::one_active))]
-pub fn one_active(kind: u16, s: Status, gain: u64, lo: usize, r: usize, active: u64) -> u64
-    requires { (lo ≤ r) × (r < 64) }
-    ensures { result ≡ one_active kind s gain lo r active }
-{
-    match s {
-        Status::Waiting => active,
-        Status::Success => gained(kind, gain, lo, r, active),
-        Status::Failure => masks::clear(active, lo, r),
-    }
-}
-
-// The repeats that go on in their bodies.
-#[tactic(auto, unfolding(crate::specs::Mirror::Down::one_going))]
-pub fn one_going(kind: u16, s: Status, lo: usize, r: usize, going: u64) -> u64
-    requires { (lo ≤ r) × (r < 64) }
-    ensures { result ≡ one_going kind s lo r going }
-{
-    match s {
-        Status::Waiting => going,
-        Status::Success => {
-            if kind == 6 {
-                return masks::clear(going, lo, r);
-            }
-            going
+    match (s, kind) {
+        (Status::Waiting, _) => Status::Waiting,
+        (Status::Success, Kind::Then) => {
+            words.active = masks::without(words.active, masks::one(span.last)) | gain;
+            Status::Waiting
         }
-        Status::Failure => going,
-    }
-}
-
-// The notices.
-#[tactic(auto, unfolding(crate::specs::Mirror::Down::one_sent, par::specs::Expr::join))]
-pub fn one_sent(kind: u16, s: Status, gain: u64, sent: u64) -> u64
-    ensures { result ≡ one_sent kind s gain sent }
-{
-    match s {
-        Status::Waiting => sent,
-        Status::Success => {
-            if kind == 7 {
-                return sent | gain;
-            }
-            sent
+        (Status::Success, Kind::Repeat) => {
+            words.active |= gain;
+            words.going = span.clear(words.going);
+            Status::Waiting
         }
-        Status::Failure => sent,
+        (Status::Success, Kind::Notify) => {
+            words.active = span.clear(words.active);
+            words.notices |= gain;
+            Status::Success
+        }
+        (Status::Failure, Kind::Not) => {
+            words.active = span.clear(words.active);
+            Status::Success
+        }
+        (Status::Success, Kind::Not) | (Status::Failure, _) => {
+            words.active = span.clear(words.active);
+            Status::Failure
+        }
+        (Status::Success, _) => {
+            words.active = span.clear(words.active);
+            Status::Waiting
+        }
     }
 }
 
-// ---- either and try, whose parts' statuses are s and t
-
-#[tactic(auto, unfolding(crate::specs::Mirror::Down::both_status))]
-pub fn both_status(kind: u16, s: Status, t: Status) -> Status
-    ensures { result ≡ both_status kind s t }
+// The status of an either, or else of a try, whose parts' statuses are s and t. Not inlined: the two tables would take 16 bytes of stack on each level,
+// as would the kind in place of a bool.
+#[inline(never)]
+fn both_status(either: bool, s: Status, t: Status) -> Status
+    ensures { result ≡ cond either (higher s t) (tried s t) }
 {
-    if kind == 4 {
-        return par::either_status(s, t);
-    }
-    par::try_status(s, t)
-}
-
-// It waits: where a part has completed it leaves itself.
-#[tactic(auto, unfolding(crate::specs::Mirror::Down::left_active))]
-fn left_active(s: Status, t: Status, r: usize, active: u64) -> u64
-    requires { r < 64 }
-    ensures { result ≡ left_active s t r active }
-{
-    match s {
-        Status::Waiting => match t {
-            Status::Waiting => active,
-            Status::Success => masks::without(active, masks::one(r)),
-            Status::Failure => masks::without(active, masks::one(r)),
-        },
-        Status::Success => masks::without(active, masks::one(r)),
-        Status::Failure => masks::without(active, masks::one(r)),
+    if either {
+        par::either_status(s, t)
+    } else {
+        par::try_status(s, t)
     }
 }
 
-// The nodes in play, where v is its status.
-#[tactic(auto, unfolding(crate::specs::Mirror::Down::both_active))]
-pub fn both_active(v: Status, s: Status, t: Status, lo: usize, r: usize, active: u64) -> u64
-    requires { (lo ≤ r) × (r < 64) }
-    ensures { result ≡ both_active v s t lo r active }
+// An either or a try, the last node of a span, whose first part is x, and whose parts' statuses are s and t. Where it waits and a part has completed it
+// leaves itself. A try whose first part completed leaves the second's lines out.
+#[tactic(auto, unfolding(crate::specs::Mirror::Down::both_end, crate::specs::Mirror::Down::both_status, crate::specs::Mirror::Down::left_active, crate::specs::Mirror::Down::both_active, crate::specs::Mirror::Down::both_counted, crate::specs::Mirror::Down::try_counted))]
+pub fn both_end(words: &mut Words, kind: Kind, span: Span, x: usize, s: Status, t: Status) -> Status
+    requires { x + 1 < span.last }
+    ensures { made result words.new ≡ both_end (kind_number kind) span.first x span.last s (made t words.old) }
 {
-    match v {
-        Status::Waiting => left_active(s, t, r, active),
-        Status::Success => masks::clear(active, lo, r),
-        Status::Failure => masks::clear(active, lo, r),
+    let either = kind == Kind::Either;
+    let status = both_status(either, s, t);
+    words.active = match (status, s, t) {
+        (Status::Waiting, Status::Waiting, Status::Waiting) => words.active,
+        (Status::Waiting, _, _) => masks::without(words.active, masks::one(span.last)),
+        (Status::Success | Status::Failure, _, _) => span.clear(words.active),
+    };
+    if !either && s != Status::Waiting {
+        words.counted = span.second_part(x).clear(words.counted);
     }
-}
-
-// The nodes whose lines count: a try whose first part completed leaves the second's out.
-#[tactic(auto, unfolding(crate::specs::Mirror::Down::both_counted, crate::specs::Mirror::Down::try_counted))]
-pub fn both_counted(kind: u16, s: Status, x: usize, r: usize, counted: u64) -> u64
-    requires { (x + 1 < r) × (r < 64) }
-    ensures { result ≡ both_counted kind s x r counted }
-{
-    if kind == 4 {
-        return counted;
-    }
-    match s {
-        Status::Waiting => counted,
-        Status::Success => masks::clear(counted, x + 1, r - 1),
-        Status::Failure => masks::clear(counted, x + 1, r - 1),
-    }
+    status
 }

@@ -1,6 +1,7 @@
-// A set of nodes is a word; node r is in it where bit r is set.
-ghost use Rattle.std.specs.Prelude.{◌≡◌, ◌≤◌, ◌<◌};
-ghost use Rattle.play.specs.Mirror.Masks.{bit, one as single, less, below, span as spanned, clear as cleared, hit as holds};
+// A set of nodes is a word; node r is in it where bit r is set. A node's number stays a plain number with its bound as a clause: it is an index into
+// arrays of 64, and a type of its own would be unwrapped at each of them.
+ghost use Rattle.std.specs.Prelude.{◌≡◌, ◌<◌};
+ghost use Rattle.play.specs.Mirror.Masks.{bit, one as single, less, below as under};
 
 // Node r alone.
 #[tactic(auto, unfolding(crate::specs::Mirror::Masks::one))]
@@ -11,49 +12,21 @@ pub fn one(r: usize) -> u64
     1u64 << r
 }
 
-// The nodes below lo.
+// The nodes below r.
 #[tactic(auto, unfolding(crate::specs::Mirror::Masks::below))]
-fn low(lo: usize) -> u64
-    requires { lo < 64 }
-    ensures { result ≡ below lo }
+pub fn below(r: usize) -> u64
+    requires { r < 64 }
+    ensures { result ≡ under r }
 {
-    (1u64 << lo) - 1
+    (1u64 << r) - 1
 }
 
 // Those of a that are not in b.
-#[tactic(auto, unfolding(crate::specs::Mirror::Masks::less))]
+#[tactic(auto, using(crate::proofs::Shifts::and_rest))]
 pub fn without(a: u64, b: u64) -> u64
     ensures { result ≡ less a b }
 {
-    a ^ (a & b)
-}
-
-// The nodes lo .. r.
-#[tactic(auto, using(crate::proofs::Shifts::top_fits), unfolding(crate::specs::Mirror::Masks::span))]
-pub fn span(lo: usize, r: usize) -> u64
-    requires { (lo ≤ r) × (r < 64) }
-    ensures { result ≡ spanned lo r }
-{
-    let top = low(r) + one(r);
-    without(top, low(lo))
-}
-
-// Those of a outside lo .. r.
-#[tactic(auto, unfolding(crate::specs::Mirror::Masks::clear))]
-pub fn clear(a: u64, lo: usize, r: usize) -> u64
-    requires { (lo ≤ r) × (r < 64) }
-    ensures { result ≡ cleared a lo r }
-{
-    without(a, span(lo, r))
-}
-
-// Whether any of t stands in lo .. r.
-#[tactic(auto, unfolding(crate::specs::Mirror::Masks::hit, crate::specs::Mirror::Masks::both))]
-pub fn hit(t: u64, lo: usize, r: usize) -> bool
-    requires { (lo ≤ r) × (r < 64) }
-    ensures { result ≡ holds t lo r }
-{
-    t & span(lo, r) != 0
+    a & !b
 }
 
 // Whether node r is in a.

@@ -1,11 +1,14 @@
 // Which way a node takes an event.
 ghost use Rattle.std.specs.Prelude.{◌≡◌, ◌+◌, ◌-◌, ◌≤◌, ◌<◌};
 ghost use Rattle.play.specs.Mirror.Masks.{bit, hit};
-ghost use Rattle.play.specs.Mirror.Down.{pair_route, route_of};
+ghost use Rattle.play.specs.Mirror.Nodes.{kind_number};
+ghost use Rattle.play.specs.Mirror.Down.{pair_route, route_of, Placed};
 
+use crate::kinds::Kind;
 use crate::masks;
+use crate::span::Span;
 
-// How a node with parts takes an event: as silent, by its first part inside itself, by the one part that is left of it, or by those of
+// How a node with parts takes an event, a case for each way: as silent, by its first part inside itself, by the one part that is left of it, or by those of
 // its two parts that hold an event that came.
 #[derive(Clone, Copy)]
 pub enum Route {
@@ -20,57 +23,35 @@ pub enum Route {
 
 // A node with two parts, in their places.
 #[tactic(auto, unfolding(crate::specs::Mirror::Down::pair_route))]
-fn pair_of(kind: u16, active: u64, met: u64, lo: usize, x: usize, r: usize) -> Route
-    requires { (lo ≤ x) × (x + 1 < r) × (r < 64) }
-    ensures { result ≡ pair_route kind (bit active r) (hit met lo x) (hit met (x + 1) (r - 1)) }
+fn pair_of(kind: Kind, active: u64, met: u64, span: Span, x: usize) -> Route
+    requires { (span.first ≤ x) × (x + 1 < span.last) }
+    ensures placed { Placed span.first x span.last result }
+    ensures way { result ≡ pair_route (kind_number kind) (bit active span.last) (hit met span.first x) (hit met (x + 1) (span.last - 1)) }
 {
-    if masks::has(active, r) {
-        if kind == 5 {
-            return Route::One;
-        }
-        if masks::hit(met, lo, x) {
-            if masks::hit(met, x + 1, r - 1) {
-                return Route::Both;
-            }
-            return Route::Left;
-        }
-        return Route::Right;
+    match (masks::has(active, span.last), kind) {
+        (true, Kind::Then) => Route::One,
+        (true, _) if !span.first_part(x).meets(met) => Route::Right,
+        (true, _) if span.second_part(x).meets(met) => Route::Both,
+        (true, _) => Route::Left,
+        (false, _) if span.first_part(x).meets(met) => Route::First,
+        (false, _) => Route::Second,
     }
-    if masks::hit(met, lo, x) {
-        return Route::First;
-    }
-    Route::Second
 }
 
 // A node whose parts do not stand in their places is taken as silent: no rule that was written out holds one.
 #[tactic(auto, unfolding(crate::specs::Mirror::Down::route_of))]
-pub fn route_of(kind: u16, active: u64, met: u64, lo: usize, x: usize, r: usize) -> Route
-    requires { (lo ≤ r) × (r < 64) }
-    ensures { result ≡ route_of kind active met lo x r }
+pub fn route_of(kind: Kind, active: u64, met: u64, span: Span, x: usize) -> Route
+    ensures placed { Placed span.first x span.last result }
+    ensures way { result ≡ route_of (kind_number kind) active met span.first x span.last }
 {
-    if kind < 3 {
+    if x < span.first || span.last <= x {
         return Route::Silent;
     }
-    if 8 < kind {
-        return Route::Silent;
+    match kind {
+        Kind::Not | Kind::Repeat | Kind::Notify => Route::One,
+        Kind::Either | Kind::Then | Kind::Try if x + 1 < span.last => {
+            pair_of(kind, active, met, span, x)
+        }
+        _ => Route::Silent,
     }
-    if x < lo {
-        return Route::Silent;
-    }
-    if r <= x {
-        return Route::Silent;
-    }
-    if kind == 3 {
-        return Route::One;
-    }
-    if kind == 6 {
-        return Route::One;
-    }
-    if kind == 7 {
-        return Route::One;
-    }
-    if r <= x + 1 {
-        return Route::Silent;
-    }
-    pair_of(kind, active, met, lo, x, r)
 }

@@ -1,9 +1,10 @@
 -- Mirror. One event on the nodes of a rule. F are the nodes, G what they gain, T the events in play that came.
-use Rattle.std.specs.Prelude.{ℕ, zero, suc, ◌+◌, ◌-◌, ◌<◌, ◌≡◌, Bool, cond, List, [], ◌∷◌, get_or, eqb, leb, ltb}
+use Rattle.std.specs.Prelude.{ℕ, zero, suc, ◌+◌, ◌-◌, ◌≤◌, ◌<◌, Bool, cond, List, eqb, leb, ltb}
 use Rattle.par.specs.declared.Status.{Status}
 use Rattle.par.specs.declared.Status.TheVariants.{Waiting, Success, Failure}
-use Rattle.par.specs.Status.{opposite, higher, lower, tried, status_byte}
+use Rattle.par.specs.Status.{opposite, higher, lower, tried}
 use Rattle.par.specs.Expr.{join}
+use Rattle.play.specs.declared.ends.Words.{Words}
 use Rattle.play.specs.declared.ways.Route.{Route}
 use Rattle.play.specs.declared.ways.Route.TheVariants.{Silent, One, First, Second, Both, Left, Right}
 use Rattle.play.specs.Mirror.Masks.{bit, one, with, less, clear, hit}
@@ -11,26 +12,8 @@ use Rattle.play.specs.Mirror.Nodes.{kind_at, first_at, gain_at}
 
 -- ---- what a step changes
 
--- the nodes in play, the repeats that go on in their bodies, the nodes whose lines count, and the notices sent
-pub record Words : Type 0 where
-  pub active : ℕ
-  pub going : ℕ
-  pub counted : ℕ
-  pub sent : ℕ
-
 abbrev pub words : ℕ → ℕ → ℕ → ℕ → Words
-words A W C S = record { active = A; going = W; counted = C; sent = S }
-
--- in the code they are one list
-abbrev pub words_in : List ℕ → Words
-words_in l = words (get_or l 0 0) (get_or l 1 0) (get_or l 2 0) (get_or l 3 0)
-
--- with the events in play that came behind them
-abbrev pub met_in : List ℕ → ℕ
-met_in l = get_or l 4 0
-
-abbrev pub list_of : Words → ℕ → List ℕ
-list_of st T = st.active ∷ st.going ∷ st.counted ∷ st.sent ∷ T ∷ []
+words A W C S = record { active = A; going = W; counted = C; notices = S }
 
 pub record Made : Type 0 where
   pub status : Status
@@ -56,6 +39,16 @@ route_of kind A T lo x r =
     (cond (eqb kind 7) One
     (cond (leb r (x + 1)) Silent
     (pair_route kind (bit A r) (hit T lo x) (hit T (x + 1) (r - 1))))))))))
+
+-- where the parts stand: the first in lo .. r - 1, and of two the second after it
+abbrev pub Placed : ℕ → ℕ → ℕ → Route → Type 0
+Placed lo x r Silent = Unit {0}
+Placed lo x r One = (lo ≤ x) × (x < r)
+Placed lo x r First = (lo ≤ x) × (x + 1 < r)
+Placed lo x r Second = (lo ≤ x) × (x + 1 < r)
+Placed lo x r Both = (lo ≤ x) × (x + 1 < r)
+Placed lo x r Left = (lo ≤ x) × (x + 1 < r)
+Placed lo x r Right = (lo ≤ x) × (x + 1 < r)
 
 -- ---- a node with one part that steps, by its kind, that part's status and what it gains
 
@@ -86,7 +79,7 @@ unfoldable pub one_end : ℕ → ℕ → ℕ → ℕ → Made → Made
 one_end kind g lo r m =
     made (one_status kind m.status)
     (words (one_active kind m.status g lo r m.after.active) (one_going kind m.status lo r m.after.going) m.after.counted
-    (one_sent kind m.status g m.after.sent))
+    (one_sent kind m.status g m.after.notices))
 
 -- ---- either and try, by their parts' statuses
 
@@ -119,7 +112,7 @@ unfoldable pub both_end : ℕ → ℕ → ℕ → ℕ → Status → Made → Ma
 both_end kind lo x r s m =
     made (both_status kind s m.status)
     (words (both_active (both_status kind s m.status) s m.status lo r m.after.active) m.after.going
-    (both_counted kind s x r m.after.counted) m.after.sent)
+    (both_counted kind s x r m.after.counted) m.after.notices)
 
 -- ---- a node, by its route, where `go lo r st` steps its parts
 
@@ -134,7 +127,7 @@ taken go Right kind g lo x r st = both_end kind lo x r Waiting (go (x + 1) (r - 
 
 -- an event that came
 abbrev pub came : ℕ → Words → Made
-came r st = made Success (words (less st.active (one r)) st.going st.counted st.sent)
+came r st = made Success (words (less st.active (one r)) st.going st.counted st.notices)
 
 -- node r, whose nodes stand from lo on; where it is the only one it is an event that came. The first argument is above r
 module _ (F G : List ℕ) (T : ℕ) where
@@ -143,11 +136,3 @@ module _ (F G : List ℕ) (T : ℕ) where
   down (suc f) lo r st =
       cond (eqb lo r) (came r st)
       (taken (down f) (route_of (kind_at F r) st.active T lo (first_at F r) r) (kind_at F r) (gain_at G r) lo (first_at F r) r st)
-
--- ---- what the code says: the byte of its status, and the list that it leaves
-
-abbrev pub Makes : Made → ℕ → ℕ → List ℕ → Type 0
-Makes m T s l = (s ≡ status_byte m.status) × (l ≡ list_of m.after T)
-
-abbrev pub Downs : List ℕ → List ℕ → ℕ → ℕ → List ℕ → ℕ → List ℕ → Type 0
-Downs F G lo r l s l' = (f : ℕ) → r < f → Makes (down F G (met_in l) f lo r (words_in l)) (met_in l) s l'

@@ -25,7 +25,7 @@ abbrev pub moved : Made → Moved
 moved m =
     record {
       status = m.status;
-      notices = m.after.sent;
+      notices = m.after.notices;
       lines = ones m.after.counted;
       active = m.after.active;
       going = both m.after.going m.after.active;
