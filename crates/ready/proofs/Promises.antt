@@ -2,13 +2,12 @@
 -- An event may be any number: a node holds it whole.
 use Prim.Native.Nat.{ℕ, ◌+◌, ◌<◌}
 use mathlib.Core.Path.{◌≡◌}
-use mathlib.Core.Logic.{◌≢◌}
 use mathlib.Core.List.{List}
 use lib.ListN.{length}
 use Rattle.par.specs.Expr.{size}
 use Rattle.files.specs.Rule.{rule, rule_number}
 use Rattle.play.proofs.Plays.{Stands}
-use Rattle.ready.specs.Mirror.Ready.{refused, ready_of}
+use Rattle.ready.specs.Mirror.Ready.{ready_of}
 use Rattle.ready.proofs.RuleNodes
 
 -- ---- What a rule file is made ready to, before the first event, stands for its rule
@@ -16,11 +15,6 @@ use Rattle.ready.proofs.RuleNodes
 pub ready_stands : (s : List ℕ) → rule_number s ≡ 0
     → let r = ready_of s in Stands r.nodes r.gain r.leaves r.repeats r.root r.fresh 0 (rule s)
 ready_stands = RuleNodes.ready_stands
-
--- ---- It has the number of the file
-
-pub ready_number : (s : List ℕ) → (ready_of s).number ≡ rule_number s
-ready_number = RuleNodes.ready_number
 
 -- ---- Its nodes are as many as the rule's size, at most 64
 
@@ -30,10 +24,5 @@ root_few = RuleNodes.root_few
 pub root_size : (s : List ℕ) → rule_number s ≡ 0 → (ready_of s).root + 1 ≡ size (rule s)
 root_size = RuleNodes.root_size
 
-pub ready_long : (s : List ℕ) → (length (ready_of s).nodes ≡ 64) × (length (ready_of s).gain ≡ 64)
+pub ready_long : (s : List ℕ) → rule_number s ≡ 0 → (length (ready_of s).nodes ≡ 64) × (length (ready_of s).gain ≡ 64)
 ready_long = RuleNodes.ready_long
-
--- ---- Where the file is refused, no node stands
-
-pub ready_refused : (s : List ℕ) → rule_number s ≢ 0 → ready_of s ≡ refused (rule_number s)
-ready_refused = RuleNodes.ready_refused

@@ -12,44 +12,45 @@ use Rattle.par.specs.Records.{grow, Parts, expr}
 use Rattle.par.proofs.Records.{expr_step}
 use Rattle.files.specs.Rule.{Earlier}
 use Rattle.play.specs.Mirror.Nodes.{packed}
-use Rattle.ready.specs.Mirror.WrittenOut.{Wrote, wrote, put, last, assembled, written_out, Room}
+use Rattle.ready.specs.declared.writing.Written.{Written}
+use Rattle.ready.specs.Mirror.WrittenOut.{put, last, assembled, written_out, Room}
 use Rattle.ready.proofs.Keeps.{Keeps, keeps_self, keeps_on, keeps_set}
 use Rattle.ready.proofs.Lays.{Lays, Lays.silent, Lays.event, Lays.not, Lays.either, Lays.then, Lays.repeat, Lays.notify, Lays.try, lays_keeps}
 
 -- ---- an expression written out
 
 -- v came from w by writing behind it
-pub record Kept (w v : Wrote) : Type 0 where
+pub record Kept (w v : Written) : Type 0 where
   pub more : w.count ≤ v.count
   pub nodes : Keeps w.count w.nodes v.nodes
   pub sets : Keeps w.count w.sets v.sets
 
 -- e stands in v behind what w holds, its root last
-pub record Out (e : Expr) (w v : Wrote) : Type 0 where
+pub record Out (e : Expr) (w v : Written) : Type 0 where
   pub count : v.count ≡ w.count + size e
   pub kept : Kept w v
   pub lays : Lays v.nodes v.sets w.count (last v) e
 
 -- there is room for e behind w
-record Fits (e : Expr) (w : Wrote) : Type 0 where
+record Fits (e : Expr) (w : Written) : Type 0 where
   room : w.count + size e ≤ 64
   nodes_long : length w.nodes ≡ 64
   sets_long : length w.sets ≡ 64
 
-kept_self : {w : Wrote} → Kept w w
+kept_self : {w : Written} → Kept w w
 kept_self = record { more = omega arith; nodes = keeps_self; sets = keeps_self }
 
-kept_on : {w v u : Wrote} → Kept w v → Kept v u → Kept w u
+kept_on : {w v u : Written} → Kept w v → Kept v u → Kept w u
 kept_on p q =
     let h = p.more in
     let k = q.more in
     record { more = omega arith; nodes = keeps_on h p.nodes q.nodes; sets = keeps_on h p.sets q.sets }
 
-kept_put : (v : Wrote) (kind x A : ℕ) → Kept v (put v kind x A)
+kept_put : (v : Written) (kind x A : ℕ) → Kept v (put v kind x A)
 kept_put v kind x A =
     record { more = omega arith; nodes = keeps_set v.nodes v.count (packed kind x); sets = keeps_set v.sets v.count A }
 
-fits_on : {w v : Wrote} {d e : Expr} → Fits e w → Kept w v → v.count + size d ≤ 64 → Fits d v
+fits_on : {w v : Written} {d e : Expr} → Fits e w → Kept w v → v.count + size d ≤ 64 → Fits d v
 fits_on fits kept room = record { room = room; nodes_long = kept.nodes.long ∙ fits.nodes_long; sets_long = kept.sets.long ∙ fits.sets_long }
 
 pub size_some : (e : Expr) → 1 ≤ size e
@@ -65,7 +66,7 @@ size_some (Expr.try x y) = omega arith
 
 -- ---- one node put behind the nodes of its parts
 
-put_out : {e : Expr} {w v : Wrote} → Fits e w → (kind x A : ℕ) → Kept w v → v.count + 1 ≡ w.count + size e
+put_out : {e : Expr} {w v : Written} → Fits e w → (kind x A : ℕ) → Kept w v → v.count + 1 ≡ w.count + size e
     → (get_or (set v.nodes v.count (packed kind x)) v.count 0 ≡ packed kind x → get_or (set v.sets v.count A) v.count 0 ≡ A
     → Lays (set v.nodes v.count (packed kind x)) (set v.sets v.count A) w.count v.count e)
     → Out e w (put v kind x A)
@@ -82,8 +83,8 @@ put_out {v = v} fits kind x A kept count lays =
 
 -- ---- a record written out, where `go` writes earlier ones out
 
-module _ (es : ℕ → Expr) (go : ℕ → Wrote → Wrote) (r : ℕ)
-    (ih : (x : ℕ) → x < r → (w : Wrote) → Fits (es x) w → Out (es x) w (go x w)) (w : Wrote) where
+module _ (es : ℕ → Expr) (go : ℕ → Written → Written) (r : ℕ)
+    (ih : (x : ℕ) → x < r → (w : Written) → Fits (es x) w → Out (es x) w (go x w)) (w : Written) where
   one_out : {e : Expr} → Fits e w → (kind A x : ℕ) → x < r → size e ≡ 1 + size (es x)
       → ((q : ℕ) (G T : List ℕ) → get_or G (suc q) 0 ≡ packed kind q → get_or T (suc q) 0 ≡ A → Lays G T w.count q (es x)
       → Lays G T w.count (suc q) e)
@@ -135,7 +136,7 @@ module _ (es : ℕ → Expr) (go : ℕ → Wrote → Wrote) (r : ℕ)
 -- ---- record r of n that name earlier ones
 
 module _ (node : ℕ → Node) (n : ℕ) (earlier : Earlier node n) where
-  written_out_lem : (f r : ℕ) → r < f → r < n → (w : Wrote) → Fits (expr node r) w → Out (expr node r) w (written_out node f r w)
+  written_out_lem : (f r : ℕ) → r < f → r < n → (w : Written) → Fits (expr node r) w → Out (expr node r) w (written_out node f r w)
   unfolding written_out
   written_out_lem zero r h l w fits = absurd (omega arith)
   written_out_lem (suc f) r h l w fits =
@@ -144,8 +145,7 @@ module _ (node : ℕ → Node) (n : ℕ) (earlier : Earlier node n) where
       (assembled_out (expr node) (written_out node f) r (λ x g v room. written_out_lem f x (omega arith) (omega arith) v room) w (node r) (earlier r l)
       (rw q at fits))
 
-pub room_out : {node : ℕ → Node} {n r count : ℕ} {F S : List ℕ} → Room node n r count F S → (f : ℕ) → r < f
-    → Out (expr node r) (wrote F S count) (written_out node f r (wrote F S count))
-room_out {node} {n} {r} {count} {F} {S} room f h =
-    written_out_lem node n room.earlier f r h room.within (wrote F S count)
+pub room_out : {node : ℕ → Node} {n r : ℕ} {w : Written} → Room node n r w → (f : ℕ) → r < f → Out (expr node r) w (written_out node f r w)
+room_out {node} {n} {r} {w} room f h =
+    written_out_lem node n room.earlier f r h room.within w
     (record { room = room.room; nodes_long = room.nodes_long; sets_long = room.sets_long })

@@ -1,100 +1,88 @@
 // A rule's expression becomes nodes: shared parts written out, parts before their whole, each node right behind its last part.
 ghost use Rattle.std.specs.Prelude.{◌≡◌, ◌-◌, ◌≤◌, ◌<◌, length};
 ghost use Rattle.files.specs.Rule.{node_in};
-ghost use Rattle.play.specs.Mirror.Nodes.{packed};
-ghost use Rattle.ready.specs.Mirror.WrittenOut.{wrote, put, Room, Writes};
+ghost use Rattle.play.specs.Mirror.Nodes.{kind_number, packed};
+ghost use Rattle.ready.specs.Mirror.WrittenOut.{put, kind_of, Room, Writes};
 
-use par::{Node, Notices};
+use par::Node;
+use play::kinds::Kind;
 
-// A node in one number: its kind, and 256 times its event or first part.
-fn pack(kind: u16, x: usize) -> u16
-    requires { (kind < 256) × (x < 256) }
-    ensures { result ≡ packed kind x }
-{
-    kind + 256 * (x as u16)
+// The nodes that are written, the notice set that each gains, and how many there are: two arrays, as the desk of the C interface holds them.
+#[derive(Clone, Copy)]
+pub struct Written {
+    pub nodes: [u16; 64],
+    pub sets: [u64; 64],
+    pub count: usize,
 }
 
-// Writes one node behind the first `count`, with the notice set that it gains; how many there are then.
-fn put_node(
-    nodes: &mut [u16; 64],
-    gain: &mut [u64; 64],
-    count: usize,
-    kind: u16,
-    x: usize,
-    set: u64,
-) -> usize
-    requires { ((count < 64) × (length nodes.old ≡ 64) × (length gain.old ≡ 64)) × ((kind < 256) × (x < 256)) }
-    ensures { wrote nodes.new gain.new result ≡ put (wrote nodes.old gain.old count) kind x set }
+// A node in one number, as the desk of the C interface holds it: its kind, and 256 times its event or first part. A kind has its number as
+// declared, and no `From` narrows an index.
+fn pack(kind: Kind, x: usize) -> u16
+    requires { x < 256 }
+    ensures { result ≡ packed (kind_number kind) x }
 {
-    nodes[count] = pack(kind, x);
-    gain[count] = set;
-    count + 1
+    kind as u16 + 256 * (x as u16)
 }
 
-// Writes the node of a construct whose first part's root is the last of the first n nodes, behind the first m; how many there are then.
-fn put_whole(
-    nodes: &mut [u16; 64],
-    gain: &mut [u64; 64],
-    n: usize,
-    m: usize,
-    kind: u16,
-    set: u64,
-) -> usize
-    requires { ((1 ≤ n) × (n ≤ m) × (m < 64) × (length nodes.old ≡ 64) × (length gain.old ≡ 64)) × (kind < 256) }
-    ensures { wrote nodes.new gain.new result ≡ put (wrote nodes.old gain.old m) kind (n - 1) set }
-{
-    put_node(nodes, gain, m, kind, n - 1, set)
+impl Written {
+    // Writes one node behind the others, with the notice set that it gains.
+    fn put(&mut self, kind: Kind, x: usize, set: u64)
+        requires { (self.old.count < 64) × (x < 256) }
+        ensures { self.new ≡ put self.old (kind_number kind) x set }
+    {
+        self.nodes[self.count] = pack(kind, x);
+        self.sets[self.count] = set;
+        self.count += 1;
+    }
+
+    // Writes the node of a construct whose first part's root is the last of the first n nodes.
+    fn put_whole(&mut self, n: usize, kind: Kind, set: u64)
+        requires { (1 ≤ n) × (n ≤ self.old.count) × (self.old.count < 64) }
+        ensures { self.new ≡ put self.old (kind_number kind) (n - 1) set }
+    {
+        self.put(kind, n - 1, set);
+    }
 }
 
-fn wide(set: Notices) -> u64
-    ensures { result ≡ set }
+// The kind of a construct.
+fn kind_of(node: Node) -> Kind
+    ensures { kind_number result ≡ kind_of node }
 {
-    set as u64
+    match node {
+        Node::Silent => Kind::Silent,
+        Node::Event(_) => Kind::Event,
+        Node::Not(_) => Kind::Not,
+        Node::Either(_, _) => Kind::Either,
+        Node::Then(_, _) => Kind::Then,
+        Node::Repeat(_) => Kind::Repeat,
+        Node::Notify(_, _) => Kind::Notify,
+        Node::Try(_, _) => Kind::Try,
+    }
 }
 
-// Writes the expression of record r out behind the first `count` nodes; how many nodes there are then. The last is its root.
-pub fn write_out(
-    file: &[u8],
-    at: &[usize],
-    r: usize,
-    nodes: &mut [u16; 64],
-    gain: &mut [u64; 64],
-    count: usize,
-) -> usize
-    requires { Room (node_in file.now at.now) (length at.now) r count nodes.old gain.old }
-    ensures { Writes (node_in file.now at.now) r (wrote nodes.old gain.old count)
-        (wrote nodes.new gain.new result) }
+// Writes the expression of record r out behind the nodes that are written. The last is then its root.
+pub fn write_out(file: &[u8], at: &[usize], r: usize, written: &mut Written)
+    requires { Room (node_in file.now at.now) (length at.now) r written.old }
+    ensures { Writes (node_in file.now at.now) r written.old written.new }
 {
-    let p = at[r];
-    match records::node_at(file, p) {
-        Node::Silent => put_node(nodes, gain, count, 1, 0, 0),
-        Node::Event(e) => put_node(nodes, gain, count, 2, e as usize, 0),
-        Node::Not(x) => {
-            let n = write_out(file, at, x, nodes, gain, count);
-            put_whole(nodes, gain, n, n, 3, 0)
-        }
-        Node::Either(x, y) => {
-            let n = write_out(file, at, x, nodes, gain, count);
-            let m = write_out(file, at, y, nodes, gain, n);
-            put_whole(nodes, gain, n, m, 4, 0)
-        }
-        Node::Then(x, y) => {
-            let n = write_out(file, at, x, nodes, gain, count);
-            let m = write_out(file, at, y, nodes, gain, n);
-            put_whole(nodes, gain, n, m, 5, 0)
-        }
-        Node::Repeat(x) => {
-            let n = write_out(file, at, x, nodes, gain, count);
-            put_whole(nodes, gain, n, n, 6, 0)
+    let node = records::node_at(file, at[r]);
+    let kind = kind_of(node);
+    match node {
+        Node::Silent => written.put(kind, 0, 0),
+        Node::Event(event) => written.put(kind, usize::from(event), 0),
+        Node::Not(x) | Node::Repeat(x) => {
+            write_out(file, at, x, written);
+            written.put_whole(written.count, kind, 0);
         }
         Node::Notify(x, set) => {
-            let n = write_out(file, at, x, nodes, gain, count);
-            put_whole(nodes, gain, n, n, 7, wide(set))
+            write_out(file, at, x, written);
+            written.put_whole(written.count, kind, u64::from(set));
         }
-        Node::Try(x, y) => {
-            let n = write_out(file, at, x, nodes, gain, count);
-            let m = write_out(file, at, y, nodes, gain, n);
-            put_whole(nodes, gain, n, m, 8, 0)
+        Node::Either(x, y) | Node::Then(x, y) | Node::Try(x, y) => {
+            write_out(file, at, x, written);
+            let n = written.count;
+            write_out(file, at, y, written);
+            written.put_whole(n, kind, 0);
         }
     }
 }

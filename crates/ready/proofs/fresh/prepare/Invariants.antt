@@ -1,14 +1,7 @@
 -- `ready::fresh::prepare` meets its contract: in turn r, what it holds is what is prepared below r.
-use Prim.Native.Nat.{suc, ◌-◌, ◌≤◌}
 use mathlib.Core.Path.{◌≡◌}
-use lib.ListN.{length}
 use Rattle.ready.specs.Mirror.Fresh.{prepared, prepares}
 use Rattle.ready.proofs.fresh.prepare.Given as goal
 
 abbrev pub invariant-loop-r : goal.invariant-loop-r
-invariant-loop-r l =
-    ((prepared l.fresh l.gain l.leaves l.repeats ≡ prepares l.nodes l.initial.gain l.r) × (l.r ≤ suc l.root)) × ((length l.fresh ≡ 64) ×
-    (length l.gain ≡ 64))
-
-abbrev pub decreases-loop-r : goal.decreases-loop-r
-decreases-loop-r l = suc l.root - l.r
+invariant-loop-r l = prepared l.fresh l.gain l.leaves l.repeats ≡ prepares l.nodes l.initial.gain l.r
