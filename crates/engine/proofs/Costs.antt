@@ -8,6 +8,7 @@ use native.Mathlib.Nat.{le_refl}
 use borrow.Author.Tests.{ne_eqb}
 use Rattle.files.specs.Rule.{rule_number}
 use Rattle.engine.specs.declared.Desk.{Desk}
+use Rattle.engine.specs.Reply.{said}
 use Rattle.engine.specs.Mirror.Desk.{empty_desk, stepped_of}
 use Rattle.engine.specs.History.{Call, Call.opening, Call.stepping, BytesIn, Book, Book.closed, Book.«open»}
 use Rattle.engine.specs.History.{book_after, books_after, desks_after, desks_back}
@@ -16,11 +17,11 @@ use Rattle.engine.proofs.Desks.{closed_step}
 use Rattle.engine.proofs.Sitting.{step_lines}
 use Rattle.engine.proofs.Histories.{Keeps, Keeps.shut, Keeps.sits, opens, steps, keeps_after, keeps_empty}
 
-step_few : (d : Desk) (b : Book) → Keeps d b → (a : ℕ) → (stepped_of d a).reply.answer.lines ≤ rule_size b
+step_few : (d : Desk) (b : Book) → Keeps d b → (a : ℕ) → (said (stepped_of d a).reply).lines ≤ rule_size b
 step_few d closed (shut e) a = rw (closed_step d a e) (le_refl 0)
 step_few d («open» x feed) (sits s) a = step_lines d x feed s a
 
-pub step_within : (d : Desk) (a : ℕ) → WithinRule d (stepped_of d a).reply.answer.lines
+pub step_within : (d : Desk) (a : ℕ) → WithinRule d (said (stepped_of d a).reply).lines
 step_within d a calls bytes e = step_few d (books_after closed calls) (rw e (keeps_after calls empty_desk closed bytes keeps_empty)) a
 
 -- ---- over a history

@@ -3,12 +3,12 @@ use Prim.Native.Nat.{ℕ}
 use mathlib.Core.Path.{◌≡◌, refl, sym, ap, ap₂, ◌∙◌}
 use mathlib.Core.List.{List, [], ◌∷◌, ◌++◌, map}
 use lib.Seq.{sets}
+use Rattle.std.specs.Prelude.{Ok}
 use Rattle.par.specs.declared.Answer.{Answer}
 use Rattle.par.specs.Expr.{Expr}
 use Rattle.par.specs.Feed.{answers, after, Bytes}
 use Rattle.files.specs.Rule.{rule, rule_number}
 use Rattle.engine.specs.declared.Desk.{Desk}
-use Rattle.engine.specs.declared.feed.Ran.{Ran}
 use Rattle.engine.specs.Feed.{answer_bytes, ran_number, Fed}
 use Rattle.engine.specs.Mirror.Desk.{fresh_desk, opened_of, stepped_of}
 use Rattle.engine.specs.History.{Call.stepping, Back, Back.replied, desks_back, back_bytes}
@@ -17,7 +17,7 @@ use Rattle.engine.proofs.Sitting.{Sitting, fresh_sits, after_more, step_sits, st
 
 -- what comes back of a step that gives this answer
 abbrev pub replies : List Answer → List Back
-replies rs = map (λ r. replied (record { number = 0; answer = r })) rs
+replies rs = map (λ r. replied (Ok r)) rs
 
 steps_through : (events : List ℕ) (d : Desk) (x : Expr) (feed : List ℕ) → Sitting d x feed
     → desks_back d (map stepping events) ≡ replies (answers (after x feed) events)
@@ -39,8 +39,8 @@ module _ (s events : List ℕ) (bytes : Bytes s) (d : Desk) where
   desk_is_run e = rw e (steps_through events (fresh_desk s) (rule s) [] (fresh_sits s bytes e))
 
   -- so the bytes that a run writes are the records of what the desk replied
-  pub run_is_desk : {place : ℕ} {buffer buffer' : List ℕ} {r : Ran} → Fed s events place buffer r buffer' → r.number ≡ 0
+  pub run_is_desk : {place : ℕ} {buffer buffer' : List ℕ} {number written : ℕ} → Fed s events place buffer number written buffer' → number ≡ 0
       → buffer' ≡ sets buffer place (back_bytes (desks_back (opened_of d s).desk (map stepping events)))
   run_is_desk {place} {buffer} fed e =
-      let z : ran_number s events place buffer ≡ 0 = sym fed.number ∙ e in
+      let z : ran_number s events place buffer ≡ 0 = sym fed.number_is ∙ e in
       fed.bytes ∙ rw (z, desk_is_run (ran_accepts s events place buffer fed e), backs_bytes (answers (rule s) events))

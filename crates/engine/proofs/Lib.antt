@@ -1,4 +1,4 @@
--- Promises restates the main theorems. Feeds, Runs: the whole feed. Desks, Sitting, Histories, Costs, DeskRuns: the desk. The others prove these and
+-- Promises restates the main theorems. Feeds, Runs: the whole feed. Desks, Sitting, Histories, Costs, DeskRuns, Calls: the desk. The others prove these and
 -- the code.
 pub mod Promises
 pub mod Feeds
@@ -8,6 +8,7 @@ pub mod Sitting
 pub mod Histories
 pub mod Costs
 pub mod DeskRuns
+pub mod Calls
 pub mod Widths
 pub mod Bytes
 pub mod Filling

@@ -5,6 +5,7 @@ use mathlib.Core.Path.{◌≡◌, refl, ap, ◌∙◌}
 use mathlib.Core.Bool.{true}
 use mathlib.Core.List.{List, [], ◌∷◌, ◌++◌}
 use native.Mathlib.Nat.{mod-eq_of_lt}
+use Rattle.std.specs.Prelude.{Ok}
 use Rattle.par.specs.Expr.{Expr, size}
 use Rattle.par.specs.Step.{remainder}
 use Rattle.par.specs.Feed.{answer, after, Bytes}
@@ -19,8 +20,8 @@ use Rattle.play.proofs.Whole.{Good, right}
 use Rattle.play.proofs.Exact.{stands_said}
 use Rattle.ready.proofs.Promises.{ready_stands, root_few}
 use Rattle.engine.specs.declared.Desk.{Desk}
-use Rattle.engine.specs.declared.Onward.{Onward}
-use Rattle.engine.specs.Mirror.Desk.{fresh_desk, marked, played_on, onward, stepped_of}
+use Rattle.engine.specs.Reply.{said}
+use Rattle.engine.specs.Mirror.Desk.{fresh_desk, marked, Onward, played_on, onward, stepped_of}
 use Rattle.engine.proofs.Widths.{rule_narrow, narrow_notices}
 
 pub record Sitting (d : Desk) (x : Expr) (feed : List ℕ) : Type 0 where
@@ -60,12 +61,12 @@ module _ (d : Desk) (x : Expr) (feed : List ℕ) (s : Sitting d x feed) (a : ℕ
       (record { open_is = s.open_is; root_low = s.root_low; narrow = s.narrow; stands = rw (after_more x feed a) good.stands })
 
   -- what the figures say of the event
-  pub step_answers : (stepped_of d a).reply ≡ record { number = 0; answer = answer (after x feed) a }
+  pub step_answers : (stepped_of d a).reply ≡ Ok (answer (after x feed) a)
   unfolding stepped_of
   step_answers =
       let fits = after_has Any (λ A. A < 2 ^ 16) feed x s.narrow in
       ap (λ (o : Onward). o.reply) goes_on ∙ rw (good.status, good.lines, good.notices, narrow_notices (after x feed) a fits) refl
 
   -- at most as many lines as the rule has nodes, after whatever went before
-  pub step_lines : (stepped_of d a).reply.answer.lines ≤ size x
+  pub step_lines : (said (stepped_of d a).reply).lines ≤ size x
   step_lines = rw step_answers (lines_after x feed a)

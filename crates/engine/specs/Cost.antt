@@ -3,6 +3,7 @@ use Rattle.std.specs.Prelude.{ℕ, ◌≤◌, ◌≡◌, ◌≢◌, List, [], �
 use Rattle.par.specs.Expr.{size}
 use Rattle.files.specs.Rule.{rule_number}
 use Rattle.engine.specs.declared.Desk.{Desk}
+use Rattle.engine.specs.Reply.{said}
 use Rattle.engine.specs.Mirror.Desk.{empty_desk}
 use Rattle.engine.specs.History.{Call, Call.opening, Call.stepping, Back, Back.numbered, Back.replied, BytesIn}
 use Rattle.engine.specs.History.{Book, Book.closed, Book.«open», desks_after, books_after}
@@ -28,4 +29,4 @@ NoneAccepted (stepping a ∷ calls) = NoneAccepted calls
 abbrev pub LinesUpTo : ℕ → List Back → Type 0
 LinesUpTo n [] = Unit {0}
 LinesUpTo n (numbered k ∷ backs) = LinesUpTo n backs
-LinesUpTo n (replied r ∷ backs) = (r.answer.lines ≤ n) × LinesUpTo n backs
+LinesUpTo n (replied r ∷ backs) = ((said r).lines ≤ n) × LinesUpTo n backs

@@ -1,15 +1,18 @@
 -- What a reader must believe of a desk: whatever openings and steps made it of an empty one, a book keeps the rule that was accepted last and the
 -- events since, and the figures say the rest. `empty_desk`, `opened_of` and `stepped_of` only name what the calls do.
-use Rattle.std.specs.Prelude.{ℕ, ◌≡◌, cond, List, [], ◌∷◌, ◌++◌, eqb}
+use Rattle.std.specs.Prelude.{ℕ, ◌≡◌, cond, Result, Ok, Err, List, [], ◌∷◌, ◌++◌, eqb}
+use Rattle.par.specs.declared.Answer.{Answer}
 use Rattle.par.specs.Status.{status_byte}
 use Rattle.par.specs.Expr.{Expr}
 use Rattle.par.specs.Feed.{answer, after, Bytes}
+use Rattle.records.specs.declared.refusal.Refusal.{Refusal}
+use Rattle.records.specs.declared.refusal.Refusal.TheVariants.{NoRuleOpen}
 use Rattle.files.specs.Rule.{rule, rule_number}
 use Rattle.play.specs.Said.{remains}
 use Rattle.engine.specs.declared.Desk.{Desk}
-use Rattle.engine.specs.declared.Reply.{Reply}
 use Rattle.engine.specs.Feed.{answer_record}
-use Rattle.engine.specs.Mirror.Desk.{empty_desk, opened_of, stepped_of, refusal}
+use Rattle.engine.specs.Reply.{said}
+use Rattle.engine.specs.Mirror.Desk.{empty_desk, opened_of, stepped_of}
 
 -- a call on a desk, and what comes back of it
 pub data Call : Type 0 where
@@ -18,7 +21,7 @@ pub data Call : Type 0 where
 
 pub data Back : Type 0 where
   numbered : ℕ → Back
-  replied : Reply → Back
+  replied : Result Answer Refusal → Back
 
 -- every rule file is bytes
 abbrev pub BytesIn : List Call → Type 0
@@ -48,7 +51,7 @@ desks_back d (c ∷ calls) = desk_back d c ∷ desks_back (desk_after d c) calls
 unfoldable pub back_bytes : List Back → List ℕ
 back_bytes [] = []
 back_bytes (numbered n ∷ backs) = back_bytes backs
-back_bytes (replied r ∷ backs) = answer_record r.answer.notices (status_byte r.answer.status) ++ back_bytes backs
+back_bytes (replied r ∷ backs) = answer_record (said r).notices (status_byte (said r).status) ++ back_bytes backs
 
 -- ---- the book
 
@@ -61,10 +64,10 @@ book_after b (opening s) = cond (eqb (rule_number s) 0) («open» (rule s) []) b
 book_after closed (stepping a) = closed
 book_after («open» x feed) (stepping a) = «open» x (feed ++ (a ∷ []))
 
--- the reply to an event: 15 where no rule is open, else what the figures answer for the rule after the events since
-abbrev pub book_reply : Book → ℕ → Reply
-book_reply closed a = refusal 15
-book_reply («open» x feed) a = record { number = 0; answer = answer (after x feed) a }
+-- the reply to an event: refused with 15 where no rule is open, else what the figures answer for the rule after the events since
+abbrev pub book_reply : Book → ℕ → Result Answer Refusal
+book_reply closed a = Err NoRuleOpen
+book_reply («open» x feed) a = Ok (answer (after x feed) a)
 
 abbrev pub book_back : Book → Call → Back
 book_back b (opening s) = numbered (rule_number s)

@@ -1,7 +1,13 @@
--- `engine::open` meets its contract: the desk is `opened`'s, and what that means is `open_by_the_book`.
-use Rattle.std.proofs.Common.{refl}
-use Rattle.engine.proofs.Histories.{open_by_the_book}
+-- `engine::open` meets its contract: the file is refused and the desk stays, or the desk is the fresh one.
+use Rattle.std.proofs.lemmas.Result.{err_from_is_err_and}
+use Rattle.records.proofs.Refusals.{refusal_some}
+use Rattle.engine.proofs.Calls.{open_refused, open_accepted}
 use Rattle.engine.proofs.open.Goals as goal
 
+pub returns-in_err-d : goal.returns-in_err-d
+returns-in_err-d c =
+    let p = err_from_is_err_and c.from_residual.result c.from_residual.ensures.1 in
+    rw (p.1, p.2) (open_refused c.args.d.now c.args.rule.now c.in_err-d.ensures.refused (refusal_some _))
+
 pub returns : goal.returns
-returns c = rw c.opened-s.ensures (refl, refl, open_by_the_book c.args.d.now c.args.rule.now)
+returns c = open_accepted c.args.d.now c.args.rule.now c.in_ok-d.ensures.refused c.in_ok-d.ensures.fresh

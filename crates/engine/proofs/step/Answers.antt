@@ -1,12 +1,12 @@
--- `engine::step` meets its contract: the two words and the reply are `move_on`'s, and what that means are `step_by_the_book` and `step_within`.
-use Rattle.std.proofs.Common.{refl}
-use Rattle.engine.specs.Mirror.Desk.{stepped_of}
-use Rattle.engine.proofs.Histories.{step_by_the_book}
-use Rattle.engine.proofs.Costs.{step_within}
+-- `engine::step` meets its contract: no rule is open, or the two words and the answer are those of the rule's step.
+use Rattle.engine.proofs.Calls.{step_closed, step_open}
 use Rattle.engine.proofs.step.Goals as goal
 
+pub returns-then-d-eq0 : goal.returns-then-d-eq0
+returns-then-d-eq0 c = step_closed c.args.d.now c.args.event c.if-d-eq0.true
+
 pub returns : goal.returns
-unfolding stepped_of
 returns c =
-    rw c.move_on-m.ensures
-    (refl, refl, step_by_the_book c.args.d.now c.args.event, step_within c.args.d.now c.args.event)
+    let r = c.rule.ensures in
+    rw c.answer_of.ensures
+    (step_open c.args.d.now c.args.event c.if-d-eq0.false (rw (r.nodes, r.gain, r.leaves, r.repeats, r.root) at c.step-moved.ensures))

@@ -1,17 +1,15 @@
 -- Mirror. The desk, as the code moves it: on any bytes whatever.
-use Rattle.std.specs.Prelude.{ℕ, ◌%◌, Bool, not, cond, eqb}
+use Rattle.std.specs.Prelude.{ℕ, ◌%◌, Result, Ok, Err, Bool, not, cond, eqb}
 use mathlib.Core.List.{List, replicate}
-use Rattle.par.specs.declared.Status.TheVariants.{Waiting}
 use Rattle.par.specs.declared.Answer.{Answer}
+use Rattle.records.specs.declared.refusal.Refusal.{Refusal}
+use Rattle.records.specs.declared.refusal.Refusal.TheVariants.{NoRuleOpen}
 use Rattle.files.specs.Rule.{rule_number}
 use Rattle.play.specs.declared.Moved.{Moved as Played}
 use Rattle.play.specs.Mirror.Step.{stepped}
 use Rattle.ready.specs.Mirror.Ready.{ready_of}
 use Rattle.engine.specs.declared.Desk.{Desk}
-use Rattle.engine.specs.declared.Reply.{Reply}
-use Rattle.engine.specs.declared.Onward.{Onward}
 use Rattle.engine.specs.declared.Moved.{Moved}
-use Rattle.engine.specs.declared.Begun.{Begun}
 
 unfoldable pub empty_desk : Desk
 empty_desk = record {
@@ -42,14 +40,15 @@ fresh_desk s =
       gain = r.gain;
     }
 
+-- what an opening leaves on a desk, and its number
+pub record Begun : Type 0 where
+  pub desk : Desk
+  pub number : ℕ
+
 unfoldable pub opened_of : Desk → List ℕ → Begun
 opened_of d s = record { desk = cond (eqb (rule_number s) 0) (fresh_desk s) d; number = rule_number s }
 
 -- ---- a step
-
--- none, waiting, 0
-abbrev pub refusal : ℕ → Reply
-refusal n = record { number = n; answer = record { notices = 0; lines = 0; status = Waiting } }
 
 -- a mark says no at 0, and yes at any other byte
 abbrev pub marked : ℕ → Bool
@@ -62,14 +61,19 @@ narrowed n = n % 65536
 abbrev pub answer_of : Played → Answer
 answer_of m = record { notices = narrowed m.notices; lines = m.lines; status = m.status }
 
-abbrev pub played_on : Played → Onward
-played_on m = record { active = m.active; going = m.going; reply = record { number = 0; answer = answer_of m } }
+-- the two words after a step, and the reply
+pub record Onward : Type 0 where
+  pub active : ℕ
+  pub going : ℕ
+  pub reply : Result Answer Refusal
 
--- the two words after an event, and the reply
+abbrev pub played_on : Played → Onward
+played_on m = record { active = m.active; going = m.going; reply = Ok (answer_of m) }
+
 unfoldable pub onward : Desk → ℕ → Onward
 onward d a =
     cond (marked d.is_open) (played_on (stepped d.nodes d.gain d.leaves d.repeats (d.root % 64) a d.active))
-    (record { active = d.active; going = d.going; reply = refusal 15 })
+    (record { active = d.active; going = d.going; reply = Err NoRuleOpen })
 
 -- nothing else of the desk changes
 abbrev pub put : Desk → ℕ → ℕ → Desk
@@ -84,5 +88,18 @@ put d active going = record {
   gain = d.gain;
 }
 
-unfoldable pub stepped_of : Desk → ℕ → Moved
+-- what a step leaves on a desk, and its reply
+pub record Stepped : Type 0 where
+  pub desk : Desk
+  pub reply : Result Answer Refusal
+
+unfoldable pub stepped_of : Desk → ℕ → Stepped
 stepped_of d a = let o = onward d a in record { desk = put d o.active o.going; reply = o.reply }
+
+-- the same by value: refused, no desk is given back
+abbrev pub moved_by_reply : Desk → Result Answer Refusal → Result Moved Refusal
+moved_by_reply d (Ok r) = Ok (record { desk = d; answer = r })
+moved_by_reply d (Err e) = Err e
+
+abbrev pub moved_of : Stepped → Result Moved Refusal
+moved_of s = moved_by_reply s.desk s.reply
