@@ -9,6 +9,7 @@ use native.Mathlib.Numerals.{add-one}
 use borrow.Author.Count.{below_more}
 use borrow.Author.Tests.{eqb-true, eqb-false}
 use lib.Dec.{eqb}
+use Rattle.std.specs.Prelude.{Option, Some, None}
 use Rattle.par.specs.declared.Status.{Status}
 use Rattle.par.specs.declared.Status.TheVariants.{Waiting, Success, Failure}
 use Rattle.par.specs.Status.{status_byte}
@@ -18,8 +19,8 @@ use Rattle.records.proofs.Tests.{cond_case}
 use Rattle.files.proofs.Bodies.{Tells, holds, fails}
 use Rattle.alike.specs.Closing.{Stands, Absent, Closed, Fault}
 use Rattle.alike.specs.Closing.{Fault.notices_differ, Fault.statuses_differ, Fault.not_in_file, Fault.not_listed}
-use Rattle.alike.specs.List.{Placed}
-use Rattle.alike.specs.Verdict.{stand_if, stand_at, fault_of}
+use Rattle.alike.specs.List.{Placed, Placed.there, Placed.missing}
+use Rattle.alike.specs.Verdict.{stand_if, stand_at, remainders_fault, fault_of}
 
 -- ---- a status by its byte
 
@@ -34,27 +35,27 @@ status_one Failure Waiting e = absurd (omega arith)
 status_one Failure Success e = absurd (omega arith)
 status_one Failure Failure e = refl
 
--- ---- where an expression stands: 1,024 is no record's number
+-- ---- where an expression stands
 
 module _ (E : ℕ → Expr) where
-  stand_more : (n : ℕ) (e : Expr) {q : ℕ} (t : Dec (E n ≡ e)) → Placed E n e q → Placed E (suc n) e (stand_if t n q)
-  stand_more n e (yes h) w = inl (omega arith, h)
-  stand_more n e (no h) (inl w) = inl (omega (arith, w.0), w.1)
-  stand_more n e (no h) (inr w) = inr (w.0, λ p l. below_more (λ p. E p ≡ e → ⊥) n w.1 h p (rw add-one l))
+  stand_more : (n : ℕ) (e : Expr) {q : Option ℕ} (t : Dec (E n ≡ e)) → Placed E n e q → Placed E (suc n) e (stand_if t n q)
+  stand_more n e (yes h) w = there (omega arith, h)
+  stand_more n e (no h) (there w) = there (omega (arith, w.0), w.1)
+  stand_more n e (no h) (missing w) = missing (λ p l. below_more (λ p. E p ≡ e → ⊥) n w h p (rw add-one l))
 
   pub stand_placed : (n : ℕ) (e : Expr) → Placed E n e (stand_at E n e)
   unfolding stand_at
-  stand_placed zero e = inr (refl, λ p l. absurd (omega arith))
+  stand_placed zero e = missing (λ p l. absurd (omega arith))
   stand_placed (suc n) e = stand_more n e (Expr-discrete ℕ_discrete (E n) e) (stand_placed n e)
 
-module _ {E : ℕ → Expr} {n : ℕ} {e : Expr} {q : ℕ} where
-  pub placed_absent : n ≤ 1024 → Placed E n e q → q ≡ 1024 → Absent E n e
-  placed_absent few (inl w) i = absurd (omega (arith, w.0))
-  placed_absent few (inr w) i = w.1
+module _ {E : ℕ → Expr} {n : ℕ} {e : Expr} where
+  pub placed_absent : {q : Option ℕ} → Placed E n e q → q ≡ None → Absent E n e
+  placed_absent (there w) i = cc
+  placed_absent (missing w) i = w
 
-  pub placed_stands : Placed E n e q → q ≢ 1024 → Stands E n e q
-  placed_stands (inl w) i = w
-  placed_stands (inr w) i = absurd (i w.0)
+  pub placed_stands : {q : Option ℕ} {p : ℕ} → Placed E n e q → q ≡ Some p → Stands E n e p
+  placed_stands {p = p} (there {q = k} w) i = let h : k ≡ p = cc in rw h at w
+  placed_stands (missing w) i = cc
 
 -- ---- one fault at most
 
@@ -110,7 +111,7 @@ abbrev pub Met : (ℕ → Expr) → ℕ → (ℕ → ℕ → Type 0) → Expr �
 Met E n Listed d e a zero = Closed E n Listed d e a
 Met E n Listed d e a (suc k) = Fault E n Listed d e a (suc k)
 
-module _ (E : ℕ → Expr) (n : ℕ) (few : n ≤ 1024) (Listed : ℕ → ℕ → Type 0) (lists : ℕ → ℕ → Bool)
+module _ (E : ℕ → Expr) (n : ℕ) (Listed : ℕ → ℕ → Type 0) (lists : ℕ → ℕ → Bool)
     (decides : (p q : ℕ) → Tells (Listed p q) (lists p q)) (d e : Expr) (a : ℕ) where
   module _ (same : notices d a ≡ notices e a) (same' : status d a ≡ status e a) where
     closed : {p q : ℕ} → Stands E n (remainder d a) p → Stands E n (remainder e a) q → (p ≡ q) ⊎ Listed p q → Closed E n Listed d e a
@@ -122,14 +123,11 @@ module _ (E : ℕ → Expr) (n : ℕ) (few : n ≤ 1024) (Listed : ℕ → ℕ �
     unequal s t u (holds l) = closed s t (inr l)
     unequal s t u (fails v) = not_listed same same' s t u v
 
-    remainders : {p q : ℕ} → Placed E n (remainder d a) p → Placed E n (remainder e a) q
-        → Met E n Listed d e a (cond (eqb p 1024) 12 (cond (eqb q 1024) 12 (cond (eqb p q) 0 (cond (lists p q) 0 13))))
-    remainders {p} {q} f g =
-        cond_case (Met E n Listed d e a) (eqb p 1024) _ _ (λ i. not_in_file same same' (inl (placed_absent few f (eqb-true p 1024 i))))
-        (λ i. cond_case (Met E n Listed d e a) (eqb q 1024) _ _ (λ j. not_in_file same same' (inr (placed_absent few g (eqb-true q 1024 j))))
-        (λ j. let s = placed_stands f (eqb-false p 1024 i) in
-        let t = placed_stands g (eqb-false q 1024 j) in
-        cond_case (Met E n Listed d e a) (eqb p q) _ _ (λ h. closed s t (inl (eqb-true p q h))) (λ h. unequal s t (eqb-false p q h) (decides p q))))
+    remainders : {p q : Option ℕ} → Placed E n (remainder d a) p → Placed E n (remainder e a) q → Met E n Listed d e a (remainders_fault lists p q)
+    remainders (missing s) g = not_in_file same same' (inl s)
+    remainders (there s) (missing t) = not_in_file same same' (inr t)
+    remainders (there {q = p} s) (there {q = q} t) =
+        cond_case (Met E n Listed d e a) (eqb p q) _ _ (λ h. closed s t (inl (eqb-true p q h))) (λ h. unequal s t (eqb-false p q h) (decides p q))
 
   pub fault_is : Met E n Listed d e a (fault_of E n lists d e a)
   unfolding fault_of

@@ -1,14 +1,13 @@
 -- Promises restates the main theorems; the others prove them, in this order.
 pub mod Promises
-pub mod Writing
-pub mod Sorting
+pub mod Looking
 pub mod Growing
-pub mod Rows
 pub mod Placing
 pub mod Answering
 pub mod Filling
 pub mod Faults
 pub mod Settling
+pub mod Naming
 pub mod Quiet
 pub mod Pointwise
 pub mod Scanning

@@ -5,10 +5,10 @@ use mathlib.Core.Bool.{Bool, cond}
 use native.Mathlib.Omega.{arith}
 use native.Mathlib.Decide.{ℕ_discrete}
 use lib.Dec.{eqb}
+use Rattle.std.specs.Prelude.{Option, Some, None}
 use Rattle.par.specs.Expr.{Expr, Expr-discrete}
 use Rattle.par.specs.Step.{remainder}
-use Rattle.alike.specs.declared.verdict.Fault.{Fault}
-use Rattle.alike.specs.Verdict.{stand_if, stand_at, listed, fault_of, first, first_pair, first_fault}
+use Rattle.alike.specs.Verdict.{Outcome, outcome, remainders_fault, stand_if, stand_at, listed, fault_of, first, first_pair, first_fault}
 
 first_same : (f g : ℕ → ℕ) → ((a : ℕ) → f a ≡ g a) → (k a : ℕ) → first f k a ≡ first g k a
 unfolding first
@@ -19,7 +19,7 @@ pair_same : (f g : ℕ → ℕ) (m : ℕ) → ((i : ℕ) → i < m → f i ≡ g
 unfolding first_pair
 pair_same f g m same zero i l = refl
 pair_same f g m same (suc k) i l =
-    ap₂ (λ v (w : Fault). cond (eqb v 0) w (record { number = v; pair = i })) (same i (omega arith)) (pair_same f g m same k (suc i) (omega arith))
+    ap₂ (λ v (w : Outcome). cond (eqb v 0) w (outcome v i)) (same i (omega arith)) (pair_same f g m same k (suc i) (omega arith))
 
 stand_same : (E D : ℕ → Expr) (n : ℕ) → ((r : ℕ) → r < n → E r ≡ D r) → (e : Expr) → stand_at E n e ≡ stand_at D n e
 unfolding stand_at
@@ -35,12 +35,20 @@ listed_same left right left' right' (suc m) same p q =
     let e = same m (omega arith) in
     rw (e.0, e.1, listed_same left right left' right' m (λ i h. same i (omega arith)) p q)
 
+-- by which pairs are listed
+remainders_same : (lists lists' : ℕ → ℕ → Bool) → ((p q : ℕ) → lists p q ≡ lists' p q) → (p q : Option ℕ)
+    → remainders_fault lists p q ≡ remainders_fault lists' p q
+remainders_same lists lists' l None q = refl
+remainders_same lists lists' l (Some p) None = refl
+remainders_same lists lists' l (Some p) (Some q) = rw (l p q)
+
 fault_same : (E D : ℕ → Expr) (n : ℕ) → ((r : ℕ) → r < n → E r ≡ D r)
     → (lists lists' : ℕ → ℕ → Bool) → ((p q : ℕ) → lists p q ≡ lists' p q)
     → (d e : Expr) (a : ℕ) → fault_of E n lists d e a ≡ fault_of D n lists' d e a
 unfolding fault_of
 fault_same E D n same lists lists' l d e a =
-    rw (stand_same E D n same (remainder d a), stand_same E D n same (remainder e a), l (stand_at D n (remainder d a)) (stand_at D n (remainder e a)))
+    rw (stand_same E D n same (remainder d a), stand_same E D n same (remainder e a))
+    (rw (remainders_same lists lists' l (stand_at D n (remainder d a)) (stand_at D n (remainder e a))))
 
 pub first_fault_same : (E D : ℕ → Expr) (n : ℕ) → ((r : ℕ) → r < n → E r ≡ D r)
     → (left right left' right' : ℕ → ℕ) (m : ℕ) → ((i : ℕ) → i < m → (left i ≡ left' i) × (right i ≡ right' i))

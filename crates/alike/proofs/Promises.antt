@@ -15,10 +15,17 @@ use Rattle.par.proofs.Figure5.{figure_5}
 use Rattle.files.specs.Rule.{expr_of}
 use Rattle.files.proofs.Bodies.{Tells}
 use Rattle.alike.specs.declared.Judged.{Judged}
+use Rattle.alike.specs.declared.verdict.Fault.{Fault as Found}
+use Rattle.alike.specs.Told.{told}
+use Rattle.alike.specs.Outcome.{outcome_of}
+use Rattle.std.specs.Prelude.{Option}
 use Rattle.alike.specs.Closing.{Closed, Fault}
-use Rattle.alike.specs.Proposal.{pairs, left_of, right_of, Accepted, Says}
-use Rattle.alike.specs.Columns.{expressions, Held}
-use Rattle.alike.specs.List.{part_at, Placed, Filled}
+use Rattle.alike.specs.Proposal.{pairs, left_of, right_of, Accepted, Verdict, Says}
+use Rattle.par.specs.declared.Node.{Node}
+use Rattle.alike.specs.declared.plans.Part.{Part}
+use Rattle.alike.specs.Tables.{expressions, Held}
+use lib.ListN.{length}
+use Rattle.alike.specs.List.{part_of, Placed, Filled}
 use Rattle.alike.specs.Verdict.{fault_of, judged, shown_of}
 use Rattle.alike.proofs.Faults.{Met}
 use Rattle.alike.proofs.Faults
@@ -33,11 +40,18 @@ use Rattle.alike.proofs.AcceptedAlike
 pub judged_says : (es ps : List ℕ) → Says es ps (judged es ps)
 judged_says = Judging.judged_says
 
-pub says_one : (es ps : List ℕ) (v w : Judged) → Says es ps v → Says es ps w → v ≡ w
+pub says_one : (es ps : List ℕ) (v w : Verdict) → Says es ps v → Says es ps w → v ≡ w
 says_one es ps v w = Judging.says_one es ps
 
 pub judged_number : (es ps : List ℕ) → (judged es ps).number ≤ 14
 judged_number = Judging.judged_number
+
+-- The contracts of `verdict_of` and of `verdict::first_fault` determine their answers.
+pub told_one : (j k : Judged) → told j ≡ told k → j ≡ k
+told_one = Judging.told_one
+
+pub first_one : (m : ℕ) (f g : Option Found) → outcome_of f m ≡ outcome_of g m → f ≡ g
+first_one = Judging.first_one
 
 -- 0 exactly where both files are read without fault and every pair is closed on every event; then the empty tail is shown.
 pub zero_exactly : (es ps : List ℕ) → ((judged es ps).number ≡ 0) ↔ Accepted es ps
@@ -62,7 +76,7 @@ pairs_like = AcceptedAlike.pairs_like
 
 -- ---- A pair on an event is closed, or has one fault, over any records of which no two are equal
 
-pub fault_is : (E : ℕ → Expr) (n : ℕ) → n ≤ 1024 → (Listed : ℕ → ℕ → Type 0) (lists : ℕ → ℕ → Bool)
+pub fault_is : (E : ℕ → Expr) (n : ℕ) (Listed : ℕ → ℕ → Type 0) (lists : ℕ → ℕ → Bool)
     → ((p q : ℕ) → Tells (Listed p q) (lists p q)) → (d e : Expr) (a : ℕ) → Met E n Listed d e a (fault_of E n lists d e a)
 fault_is = Faults.fault_is
 
@@ -88,17 +102,17 @@ fault_alike = quiet.fault_alike
 
 -- ---- The list for one event: each entry is what the figures give for its record, and no other list would do
 
-pub entry_figures : (E : ℕ → Expr) (n a : ℕ) (N S R : List ℕ) → Filled E n a N S R n → (r : ℕ) → r < n
-    → Sends (E r) a (part_at N S R r).notices × Completes (E r) a (part_at N S R r).status
-    × ((x : Expr) → Becomes (E r) a x → Placed E n x (part_at N S R r).remains)
-entry_figures E n a N S R filled r h =
+pub entry_figures : (E : ℕ → Expr) (n a : ℕ) (parts : List Part) → Filled E n a parts n → (r : ℕ) → r < n
+    → Sends (E r) a (part_of parts r).notices × Completes (E r) a (part_of parts r).status
+    × ((x : Expr) → Becomes (E r) a x → Placed E n x (part_of parts r).remains)
+entry_figures E n a parts filled r h =
     let right = filled r h in (
-      (figure_5 (E r) a (part_at N S R r).notices).1 (sym right.notices_right),
-      (figure_3 (E r) a (part_at N S R r).status).1 (sym right.status_right),
+      (figure_5 (E r) a (part_of parts r).notices).1 (sym right.notices_right),
+      (figure_3 (E r) a (part_of parts r).status).1 (sym right.status_right),
       λ x b. rw ((figure_4 (E r) a x).0 b) at right.remains_right,
     )
 
-pub filled_one : (ks xs ys : List ℕ) (n : ℕ) → Held ks xs ys n → (a : ℕ) (N S R N' S' R' : List ℕ)
-    → Filled (expressions ks xs ys) n a N S R n → Filled (expressions ks xs ys) n a N' S' R' n
-    → (r : ℕ) → r < n → part_at N S R r ≡ part_at N' S' R' r
-filled_one ks xs ys n held = Filling.filled_one held
+pub filled_one : (ns : List Node) → Held ns → (a : ℕ) (parts parts' : List Part)
+    → Filled (expressions ns) (length ns) a parts (length ns) → Filled (expressions ns) (length ns) a parts' (length ns)
+    → (r : ℕ) → r < length ns → part_of parts r ≡ part_of parts' r
+filled_one ns held = Filling.filled_one held

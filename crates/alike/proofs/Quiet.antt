@@ -1,9 +1,10 @@
 -- Events that no record of the file names are answered alike, so that one of them is enough.
 use Prim.Native.Nat.{ℕ, zero, suc, ◌+◌, ◌<◌}
 use mathlib.Core.Path.{◌≡◌, sym, ◌∙◌, ap}
+use lib.ListN.{length}
 use mathlib.Core.Logic.{◌≢◌, inl, inr, ◌↔◌}
 use mathlib.Core.List.{List}
-use mathlib.Core.Bool.{Bool, true, false, cond}
+use mathlib.Core.Bool.{Bool, true, false, ◌||◌, not}
 use native.Mathlib.Omega.{arith}
 use Rattle.par.specs.declared.Node.{Node}
 use Rattle.par.specs.declared.Node.TheVariants.{Silent, Event, Not, Either, Then, Repeat, Notify, Try}
@@ -13,11 +14,12 @@ use Rattle.par.specs.Throughout.{Unnamed}
 use Rattle.par.specs.Records.{grow, Parts, expr, File}
 use Rattle.par.proofs.Records.{parts_map, expr_step}
 use Rattle.par.proofs.Unnamed.{unnamed_status, unnamed_notices, unnamed_same}
-use Rattle.records.specs.Constructs.{key_of}
 use Rattle.alike.specs.Closing.{Closed, Fault}
 use Rattle.alike.specs.Closing.{Fault.notices_differ, Fault.statuses_differ, Fault.not_in_file, Fault.not_listed}
-use Rattle.alike.specs.Columns.{key_at, node_col, expressions, Held}
-use Rattle.alike.specs.Settled.{Within, row, ListedRow, Settled, Named, Named.named, Named.unnamed, Quiet, Quiet.not_yet, Quiet.passed}
+use Rattle.alike.specs.declared.pair.Pair.{Pair}
+use Rattle.alike.specs.Tables.{record_of, expressions, Held, Within}
+use Rattle.alike.specs.Settled.{ListedRow, Settled, Standing, NoneNames, Named, Named.named, Named.unnamed, Quiet, Quiet.not_yet, Quiet.passed}
+use Rattle.alike.specs.Verdict.{Outcome}
 use Rattle.alike.proofs.Settling.{settled_inside, settled_same}
 
 -- ---- two events that are answered alike
@@ -112,20 +114,18 @@ settled_skip {E} {n} {left} {right} {m} {a} rows b l u w v =
     settled_same v (λ j h. let i = rows j (omega (arith, settled_inside v)) in
     (closed_alike E n (ListedRow left right m) b a u w (left j) (right j) i.0 i.1).0 (v.before j b h l))
 
--- ---- the look-up of the event among the keys of the columns
+-- ---- the records of which one is looked up as the event
 
-pub looked_unnamed : {ks xs ys : List ℕ} {n : ℕ} → Held ks xs ys n → (a : ℕ)
-    → ((r : ℕ) → r < n → key_at ks xs ys r ≡ key_of (Event a) → ⊥) → (r : ℕ) → r < n → Unnamed a (expressions ks xs ys r)
-looked_unnamed {ks} {xs} {ys} {n} h a none =
-    file_unnamed n (node_col ks xs ys) h.file a (λ r l e. none r l (h.keyed r l ∙ ap key_of e))
+pub looked_unnamed : (ns : List Node) → Held ns → (a : ℕ) → NoneNames ns (length ns) a → (r : ℕ) → r < length ns → Unnamed a (expressions ns r)
+looked_unnamed ns h a none = file_unnamed (length ns) (record_of ns) h.file a none
 
-pub quiet_skip : {ks xs ys ls rs : List ℕ} {n m a k p : ℕ} → Held ks xs ys n → Within n ls rs m
-    → Named ks xs ys n a false → Quiet ks xs ys n a true
-    → Settled (expressions ks xs ys) n (row ls) (row rs) m a k p → Settled (expressions ks xs ys) n (row ls) (row rs) m (a + 1) k p
-quiet_skip {a = a} held w (unnamed none) (passed {b} l none') v =
-    settled_skip w.inside b l (looked_unnamed held b none') (looked_unnamed held a none) v
+pub quiet_skip : {ns : List Node} (ps : List Pair) {a : ℕ} (best : Outcome) → Held ns → Within (length ns) ps → Named ns (length ns) a false → Quiet ns a true
+    → Standing ns ps a best → Standing ns ps (a + 1) best
+quiet_skip {ns} ps {a} best held w (unnamed none) (passed {b} l none') v =
+    settled_skip w.inside b l (looked_unnamed ns held b none') (looked_unnamed ns held a none) v
 
-pub quiet_more : {ks xs ys : List ℕ} {n a : ℕ} {t q : Bool} → Named ks xs ys n a t → Quiet ks xs ys n a q → Quiet ks xs ys n (a + 1) (cond t q true)
+pub quiet_more : {ns : List Node} {a : ℕ} {known quiet : Bool} → Named ns (length ns) a known → Quiet ns a quiet → Quiet ns (a + 1) (quiet || not known)
 quiet_more (named h e) not_yet = not_yet
 quiet_more (named h e) (passed {b} l none) = passed {b = b} (omega arith) none
-quiet_more {a = a} (unnamed none) q = passed {b = a} (omega arith) none
+quiet_more {a = a} (unnamed none) not_yet = passed {b = a} (omega arith) none
+quiet_more (unnamed none) (passed {b} l none') = passed {b = b} (omega arith) none'

@@ -1,5 +1,6 @@
--- Two files that are read without fault, in columns: `ready`, what reading leaves in the tables; `records_ready`, `pairs_ready` and `within_ready`,
--- what the judge asks of the columns; `closing_ready`, that its first fault is that of the files; and the verdict from it, outcome by outcome.
+-- Two files that are read without fault: `ready`, what reading leaves in the tables; `held_ready`, `indexed_ready`, `pairs_ready` and `within_ready`,
+-- what the judge asks of the records and the pairs; `closing_ready`, that its first fault is that of the files; and the verdict from it, outcome by
+-- outcome.
 use Prim.Native.Nat.{ℕ, ◌<◌, ◌≤◌}
 use mathlib.Core.Path.{◌≡◌, sym, ◌∙◌, ap, ap₂}
 use mathlib.Core.Logic.{◌≢◌, ⊎_elim}
@@ -7,24 +8,25 @@ use mathlib.Core.List.{List}
 use mathlib.Core.Bool.{true, false}
 use native.Mathlib.Omega.{arith}
 use lib.ListN.{length, get_or, take, get_or-eq_default}
-use lib.Seq.{get_or-take}
+use lib.Seq.{get_or-take, length-take-le}
+use Rattle.par.specs.declared.Node.{Node}
+use Rattle.par.specs.Nodes.{node_cmp}
 use Rattle.par.specs.Records.{File}
 use Rattle.records.specs.Fields.{word_at}
+use Rattle.records.specs.Constructs.{node_at}
 use Rattle.records.specs.Walk.{ReadTo}
 use Rattle.files.specs.Reading.{reading, reading_pairs}
-use Rattle.files.specs.Rule.{node_in, key_in, expr_of}
+use Rattle.files.specs.Rule.{node_in, expr_of}
 use Rattle.files.specs.Index.{Sorted}
 use Rattle.files.proofs.Accepted.{read_file, few, accepted_pairs}
-use Rattle.files.proofs.Inserting.{sorted_same}
+use Rattle.files.proofs.Inserting.{sorted_same, sorted_taken}
 use Rattle.files.proofs.Places.{places_read, places_fit}
-use Rattle.alike.specs.declared.verdict.Fault.{Fault}
+use Rattle.alike.specs.declared.pair.Pair.{Pair}
 use Rattle.alike.specs.Proposal.{records, listing, left_of, right_of, verdict}
-use Rattle.alike.specs.Columns.{key_at, Decoded, Split, SortedInto, expressions}
-use Rattle.alike.specs.Settled.{Records, Pairs, Within, row}
-use Rattle.alike.specs.Verdict.{first_fault, closing, judged}
+use Rattle.alike.specs.Tables.{record_of, expressions, Held, RecordIndex, left_in, right_in, PairIndex, Within, Decoded, Split, SortedInto}
+use Rattle.alike.specs.Verdict.{Outcome, first_fault, closing, judged}
 use Rattle.alike.specs.Ready.{Ready}
 use Rattle.alike.proofs.Growing.{expr_same}
-use Rattle.alike.proofs.Rows.{row_kind, row_x, row_y, held_decoded, expression_decoded}
 use Rattle.alike.proofs.Pointwise.{first_fault_same}
 use Rattle.alike.proofs.Judging.{get_or_inside, closing_settled, judged_expressions, judged_pairs, judged_closing}
 
@@ -34,92 +36,97 @@ listing_is : (es ps : List ℕ) {n : ℕ} → n ≡ records es → reading_pairs
 unfolding listing
 listing_is es ps e = ap (reading_pairs ps) e
 
+node_taken : (s at : List ℕ) (n r : ℕ) → r < n → node_in s (take n at) r ≡ node_in s at r
+unfolding node_in
+node_taken s at n r h = ap (node_at s) (get_or-take n at r 0 h)
+
+-- the index that reading leaves is one of the records at the places read
+index_read : (s at : List ℕ) {ix : List ℕ} {n : ℕ} → n ≤ length at → n ≤ length ix → Sorted node_cmp (node_in s at) n ix n
+    → Sorted node_cmp (node_in s (take n at)) (length (take n at)) (take n ix) (length (take n ix))
+index_read s at {ix} {n} fits room sorted =
+    rw (length-take-le n at fits) (sorted_same (node_taken s at n) (sorted_taken room sorted))
+
 module _ (es ps : List ℕ) {number count place : ℕ} {was at : List ℕ} (r : ReadTo (reading es) number count place was at)
     {number' count' place' : ℕ} {was' at' : List ℕ} (s : ReadTo (reading_pairs ps count) number' count' place' was' at') where
   pairs_listing : ReadTo (listing es ps) number' count' place' was' at'
   pairs_listing = rw (listing_is es ps r.count_is) at s
 
-  pub ready : {ix : List ℕ} → number ≡ 0 → Sorted (key_in es at) count ix count → 1024 ≤ length ix → number' ≡ 0 → Ready es at ix count ps at' count'
+  pub ready : {ix : List ℕ} → number ≡ 0 → Sorted node_cmp (node_in es at) count ix count → 1024 ≤ length ix → number' ≡ 0
+      → Ready es (take count at) (take count ix) ps (take count' at')
   ready e sorted room e' =
       let s = pairs_listing in
       let c = r.count_is in
       record {
         expressions_read = sym r.number_is ∙ e;
-        count_is = r.count_is;
         at_is = places_read r;
-        at_room = places_fit r;
-        ix_room = omega (arith, few es);
-        sorted = sorted;
+        sorted = index_read es at (places_fit r) (omega (arith, few es)) sorted;
         pairs_read = sym s.number_is ∙ e';
-        listed_is = s.count_is;
         places_are = places_read s;
-        places_room = places_fit s;
       }
 
--- ---- the columns
+-- ---- the records and the pairs
 
--- the first n entries of a table
-entry_is : (l is : List ℕ) (n : ℕ) → take n l ≡ is → (i : ℕ) → i < n → get_or l i 0 ≡ get_or is i 0
-entry_is l is n e i h = sym (get_or-take n l i 0 h) ∙ ap (λ l. get_or l i 0) e
+module _ {es at ix ps places : List ℕ} (r : Ready es at ix ps places) where
+  pub count_few : length at ≤ 1024
+  count_few = rw r.at_is (few es)
 
-module _ {es at ix : List ℕ} {count : ℕ} {ps places : List ℕ} {listed : ℕ} (r : Ready es at ix count ps places listed) where
-  pub count_few : count ≤ 1024
-  count_few = let c = r.count_is in omega (arith, few es)
-
-  pub listed_few : listed ≤ 256
+  pub listed_few : length places ≤ 256
   unfolding listing
-  listed_few = let l = r.listed_is in omega (arith, (accepted_pairs ps (records es) r.pairs_read).1)
+  listed_few = rw r.places_are (accepted_pairs ps (records es) r.pairs_read).1
 
-  node_is : (k : ℕ) → k < count → node_in es at k ≡ node_in es (reading es).places k
-  unfolding node_in
-  node_is k h = rw (entry_is at (reading es).places count r.at_is k h)
+  file : File (length at) (node_in es at)
+  file = rw r.at_is (read_file es)
 
-  file : File count (node_in es at)
-  file =
-      let c = r.count_is in
-      record {
-        earlier = λ k h. rw (node_is k h) ((read_file es).earlier k (omega arith));
-        distinct = λ i j h l e. (read_file es).distinct i j (omega arith) (omega arith) (sym (node_is i h) ∙ e ∙ node_is j l);
-      }
-
-  inside : (i : ℕ) → i < listed → (left_of es ps i < count) × (right_of es ps i < count)
+  inside : (i : ℕ) → i < length places → (left_of es ps i < length at) × (right_of es ps i < length at)
   unfolding listing left_of right_of
-  inside i h = let c = r.count_is in let l = r.listed_is in rw c ((accepted_pairs ps (records es) r.pairs_read).2 i (omega arith))
+  inside i h = rw r.at_is ((accepted_pairs ps (records es) r.pairs_read).2 i (rw r.places_are at h))
 
-  pair_place : (i : ℕ) → i < listed → get_or places i 0 ≡ get_or (listing es ps).places i 0
-  pair_place i h = entry_is places (listing es ps).places listed r.places_are i h
+  module _ {ns : List Node} (d : Decoded es at ns) where
+    file_held : File (length ns) (record_of ns)
+    file_held =
+        rw d.long
+        (record {
+          earlier = λ k h. rw (d.rows k h) (file.earlier k h);
+          distinct = λ i j h l e. file.distinct i j h l (sym (d.rows i h) ∙ e ∙ d.rows j l);
+        })
 
-  module _ {ks xs ys : List ℕ} (d : Decoded es at count ks xs ys) where
-    pub records_ready : ((i : ℕ) → get_or es i 0 < 256) → Records ks xs ys ix count
-    records_ready small =
-        record { held = held_decoded d file count_few small; room = r.ix_room; sorted = sorted_same (λ k h. d.rows k h) r.sorted }
+    pub held_ready : Held ns
+    held_ready = record { few = rw d.long count_few; file = file_held }
 
-    expression_is : (k : ℕ) → k < count → expressions ks xs ys k ≡ expr_of es k
+    pub indexed_ready : RecordIndex ns ix
+    indexed_ready = rw d.long (sorted_same d.rows r.sorted)
+
+    expression_is : (k : ℕ) → k < length ns → expressions ns k ≡ expr_of es k
     unfolding expr_of
     expression_is k h =
-        expression_decoded d file k h ∙ expr_same count (node_in es at) (node_in es (reading es).places) file.earlier node_is k h
+        expr_same (length ns) (record_of ns) (node_in es (reading es).places) file_held.earlier
+        (λ i l. d.rows i (rw d.long at l) ∙ ap (λ at. node_in es at i) r.at_is) k h
 
-  module _ {ks ls rs : List ℕ} (s : Split ps places listed ks ls rs) where
-    row_is : (i : ℕ) → i < listed → (row ls i ≡ left_of es ps i) × (row rs i ≡ right_of es ps i)
+  module _ {pairs : List Pair} (s : Split ps places pairs) where
+    row_is : (i : ℕ) → i < length pairs → (left_in pairs i ≡ left_of es ps i) × (right_in pairs i ≡ right_of es ps i)
     unfolding left_of right_of
     row_is i h =
-        let e = s.rows i h in
-        let p = pair_place i h in
-        (row_x ks ls rs i e ∙ ap (λ p. word_at ps p 4) p, row_y ks ls rs i e ∙ ap (λ p. word_at ps p 6) p)
+        let e = s.rows i (rw s.long at h) in (
+          ap (λ (a : Pair). a.left) e ∙ ap (λ l. word_at ps (get_or l i 0) 4) r.places_are,
+          ap (λ (a : Pair). a.right) e ∙ ap (λ l. word_at ps (get_or l i 0) 6) r.places_are,
+        )
 
-    pub pairs_ready : {ix : List ℕ} {entries : ℕ} → SortedInto (key_at ks ls rs) listed ix entries → Pairs ks ls rs ix listed entries
-    pairs_ready o = record { long = s.long; marked = λ i h. row_kind ks ls rs i (s.rows i h); sorted = o }
+    inside_here : (i : ℕ) → i < length pairs → (left_of es ps i < length at) × (right_of es ps i < length at)
+    inside_here i h = inside i (rw s.long at h)
 
-    pub within_ready : Within count ls rs listed
-    within_ready = record { inside = λ i h. let e = row_is i h in let w = inside i h in rw (e.0, e.1) w }
+    module _ {ns : List Node} (d : Decoded es at ns) where
+      pub within_ready : Within (length ns) pairs
+      within_ready = record { inside = λ i h. let e = row_is i h in rw (e.0, e.1, d.long) (inside_here i h) }
 
-    pub closing_ready : {ks' xs ys : List ℕ} → Decoded es at count ks' xs ys
-        → first_fault (expressions ks' xs ys) count (row ls) (row rs) listed ≡ closing es ps
-    unfolding closing
-    closing_ready {ks'} {xs} {ys} d =
-        first_fault_same (expressions ks' xs ys) (expr_of es) count (expression_is d) (row ls) (row rs) (left_of es ps) (right_of es ps) listed
-        row_is inside
-        ∙ ap₂ (λ n m. first_fault (expr_of es) n (left_of es ps) (right_of es ps) m) r.count_is r.listed_is
+      pub closing_ready : first_fault (expressions ns) (length ns) (left_in pairs) (right_in pairs) (length pairs) ≡ closing es ps
+      unfolding closing
+      closing_ready =
+          first_fault_same (expressions ns) (expr_of es) (length ns) (expression_is d) (left_in pairs) (right_in pairs) (left_of es ps)
+          (right_of es ps) (length pairs) row_is (λ i h. rw d.long (inside_here i h))
+          ∙ ap₂ (λ n m. first_fault (expr_of es) n (left_of es ps) (right_of es ps) m) (d.long ∙ ap length r.at_is) (s.long ∙ ap length r.places_are)
+
+pub pairs_ready : {pairs : List Pair} {ix : List ℕ} {entries : ℕ} → SortedInto pairs ix entries → PairIndex pairs (take entries ix)
+pairs_ready o = sorted_taken o.room o.sorted
 
 -- ---- the verdict, outcome by outcome
 
@@ -135,22 +142,29 @@ module _ (es ps : List ℕ) {number count place : ℕ} {was at : List ℕ} (r : 
       ∙ sym (judged_pairs es ps (sym r.number_is ∙ e) (λ z. h (s.number_is ∙ z)))
 
   module _ (z : number ≡ 0) {number' count' place' : ℕ} {was' at' : List ℕ} (s : ReadTo (reading_pairs ps count) number' count' place' was' at')
-      (z' : number' ≡ 0) {f : Fault} (e : f ≡ closing es ps) where
-    shows : (place : ℕ) → place ≡ get_or (listing es ps).places f.pair (length ps) → verdict f.number true place ≡ judged es ps
+      (z' : number' ≡ 0) {o : Outcome} (e : o ≡ closing es ps) where
+    shows : (place : ℕ) → place ≡ get_or (listing es ps).places o.pair (length ps) → verdict o.number true place ≡ judged es ps
     shows place p =
         rw (p, e) (sym (judged_closing es ps (sym r.number_is ∙ z) (sym (pairs_listing es ps r s).number_is ∙ z')))
 
-    pub closed_pair : f.pair < count' → verdict f.number true (get_or at' f.pair 0) ≡ judged es ps
-    closed_pair h =
-        let l = pairs_listing es ps r s in
-        shows _ (entry_is at' (listing es ps).places count' (places_read l) f.pair h
-        ∙ get_or_inside (listing es ps).places f.pair 0 (length ps) (omega (arith, l.count_is)))
-
-    pub closed_all : count' ≤ f.pair → verdict 0 true (length ps) ≡ judged es ps
-    closed_all h =
+    -- a pair with a fault is there
+    pub fault_inside : o.number ≢ 0 → o.pair < count'
+    fault_inside f =
         let l = (pairs_listing es ps r s).count_is in
-        let p = ap (λ v. v.pair) e in
-        let n : f.number ≡ 0 =
-        ap (λ v. v.number) e ∙ ⊎_elim (λ g. g.0) (λ g. absurd (omega (arith, g.inside))) (closing_settled es ps).here in
-        ap (λ n. verdict n true (length ps)) (sym n)
-        ∙ shows (length ps) (sym (get_or-eq_default (listing es ps).places (length ps) {n = f.pair} (omega arith)))
+        let p = ap (λ (o : Outcome). o.pair) e in
+        ⊎_elim (λ g. absurd (f (ap (λ (o : Outcome). o.number) e ∙ g.0))) (λ g. omega (arith, g.inside)) (closing_settled es ps).here
+
+    pub closed_pair : o.number ≢ 0 → verdict o.number true (get_or at' o.pair 0) ≡ judged es ps
+    closed_pair f =
+        let l = pairs_listing es ps r s in
+        let h = fault_inside f in
+        let there = ap length (places_read l) in
+        shows _
+        (sym (get_or-take count' at' o.pair 0 h) ∙ ap (λ l. get_or l o.pair 0) (places_read l)
+        ∙ get_or_inside (listing es ps).places o.pair 0 (length ps) (omega (arith, l.count_is)))
+
+    pub closed_all : o.number ≡ 0 → count' ≤ o.pair → verdict 0 true (length ps) ≡ judged es ps
+    closed_all f h =
+        let l = (pairs_listing es ps r s).count_is in
+        ap (λ n. verdict n true (length ps)) (sym f)
+        ∙ shows (length ps) (sym (get_or-eq_default (listing es ps).places (length ps) {n = o.pair} (omega arith)))

@@ -11,9 +11,8 @@ use lib.Dec.{eqb}
 use Rattle.par.specs.Expr.{Expr}
 use Rattle.records.proofs.Tests.{cond_case}
 use Rattle.files.proofs.Bodies.{Tells, fails, tells_same, tells_and, tells_or, eqb_tells}
-use Rattle.alike.specs.declared.verdict.Fault.{Fault as Outcome}
 use Rattle.alike.specs.Closing.{Closed, Fault}
-use Rattle.alike.specs.Verdict.{listed, fault_of, first, first_pair, first_fault}
+use Rattle.alike.specs.Verdict.{Outcome, listed, fault_of, first, first_pair, first_fault}
 use Rattle.alike.specs.Settled.{ListedRow, RowClosed, RowFault, FirstAt, Settled}
 use Rattle.alike.proofs.Faults.{Met, fault_one, closed_faultless, fault_is}
 
@@ -103,13 +102,13 @@ module _ {E : ℕ → Expr} {n : ℕ} {left right : ℕ → ℕ} {m : ℕ} where
 
 -- ---- the whole verdict
 
-module _ (E : ℕ → Expr) (n : ℕ) (few : n ≤ 1024) (left right : ℕ → ℕ) (m : ℕ) where
+module _ (E : ℕ → Expr) (n : ℕ) (left right : ℕ → ℕ) (m : ℕ) where
   -- the number of pair i on the event a
   abbrev numbers : ℕ → ℕ → ℕ
   numbers i = fault_of E n (listed left right m) (E (left i)) (E (right i))
 
   met_at : (i a : ℕ) → Met E n (ListedRow left right m) (E (left i)) (E (right i)) a (numbers i a)
-  met_at i a = fault_is E n few (ListedRow left right m) (listed left right m) (listed_decides left right m) (E (left i)) (E (right i)) a
+  met_at i a = fault_is E n (ListedRow left right m) (listed left right m) (listed_decides left right m) (E (left i)) (E (right i)) a
 
   row_first : (i : ℕ) → i < m → {k : ℕ} → FirstOf (numbers i) 0 256 k → k ≢ 0 → FirstAt E n left right m 256 i k
   row_first i l (none z) n' = absurd (n' refl)

@@ -1,24 +1,16 @@
--- A part that runs to the end is the tail, and what is shown is the tail of one of the files.
-use Prim.Native.Nat.{ℕ, ◌-◌, ◌≤◌}
+-- What is shown is the tail of one of the files.
+use Prim.Native.Nat.{ℕ}
 use mathlib.Core.Path.{◌≡◌, refl, sym, ◌∙◌}
 use mathlib.Core.List.{List, []}
 use mathlib.Core.Bool.{true, false}
 use native.Mathlib.Omega.{arith}
-use lib.ListN.{length, take, drop, length-drop, drop_of_length-le}
-use lib.Seq.{take_all}
-use Rattle.alike.specs.declared.Judged.{Judged}
-use Rattle.alike.specs.Proposal.{Says.accepted}
+use lib.ListN.{length, drop, drop_of_length-le}
+use Rattle.alike.specs.Proposal.{Verdict, Says.accepted}
 use Rattle.alike.specs.Verdict.{judged, shown_of}
 use Rattle.alike.proofs.Judging.{says_judged, zero_exactly}
 
-pub to_end : (s : List ℕ) (p : ℕ) → take (length s - p) (drop p s) ≡ drop p s
-to_end s p = take_all (length s - p) (drop p s) (omega (arith, length-drop p s))
-
-pub past_end : (s : List ℕ) (p : ℕ) → length s ≤ p → take (length s - length s) (drop (length s) s) ≡ drop p s
-past_end s p h = to_end s (length s) ∙ drop_of_length-le s {i = length s} (omega arith) ∙ sym (drop_of_length-le s h)
-
 -- what is shown, by the file that holds it
-module _ (es ps : List ℕ) {v : Judged} (e : v ≡ judged es ps) where
+module _ (es ps : List ℕ) {v : Verdict} (e : v ≡ judged es ps) where
   pub shown_pairs : v.in_pairs ≡ true → drop v.place ps ≡ shown_of es ps
   unfolding shown_of
   shown_pairs i = rw (← e, i)

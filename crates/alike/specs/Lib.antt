@@ -1,9 +1,13 @@
 -- When a proposal is accepted, and what the judge computes.
 pub mod Closing
 pub mod Proposal
-pub mod Columns
+pub mod Verdict
+pub mod Told
+pub mod Tables
+pub mod OneProof
+pub mod Lookup
 pub mod Plans
 pub mod List
 pub mod Settled
-pub mod Verdict
+pub mod Outcome
 pub mod Ready

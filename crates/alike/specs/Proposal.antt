@@ -4,7 +4,6 @@ use Rattle.records.specs.Fields.{word_at}
 use Rattle.records.specs.Walk.{Found}
 use Rattle.files.specs.Reading.{reading, reading_pairs}
 use Rattle.files.specs.Rule.{expr_of}
-use Rattle.alike.specs.declared.Judged.{Judged}
 use Rattle.alike.specs.Closing.{Closed, Fault}
 
 -- es is the expression file, ps the pair file
@@ -52,11 +51,17 @@ pub record Faulty (es ps : List ℕ) (number place : ℕ) : Type 0 where
   pub pairs_before : (j b : ℕ) → j < pair → b < 256 → ClosedAt es ps j b
   pub place_is : place ≡ get_or (listing es ps).places pair 0
 
-abbrev pub verdict : ℕ → Bool → ℕ → Judged
+-- a number, whether the faulty record is in the pair file, and its place there
+pub record Verdict : Type 0 where
+  pub number : ℕ
+  pub in_pairs : Bool
+  pub place : ℕ
+
+abbrev pub verdict : ℕ → Bool → ℕ → Verdict
 verdict n b p = record { number = n; in_pairs = b; place = p }
 
 -- the verdict, in document 01's order; the place is that of the faulty record
-pub data Says (es ps : List ℕ) : Judged → Type 0 where
+pub data Says (es ps : List ℕ) : Verdict → Type 0 where
   expressions_at_fault : (reading es).number ≢ 0 → Says es ps (verdict (reading es).number false (reading es).place)
   pairs_at_fault : (reading es).number ≡ 0 → (listing es ps).number ≢ 0
       → Says es ps (verdict (listing es ps).number true (listing es ps).place)

@@ -1,31 +1,32 @@
 // One record's answer to an event, from its parts' answers: notices, status, and where the remainder is to be looked for.
 ghost use Rattle.std.specs.Prelude.{◌≡◌, eqb};
-ghost use Rattle.alike.specs.Plans.{plan_silent, plan_event, plan_not, plan_next, plan_notify, plan_either, plan_try};
+ghost use Rattle.alike.specs.Plans.{plan_silent, plan_event, plan_not, plan_next, plan_notify, plan_either, plan_try, rest_either, rest_try};
 
-use par::{Notices, Status};
-use records::Key;
+use par::{Node, Notices, Status};
 
-// One answer: notices, status, and the remainder's record number; 1,024 where the remainder is not in the file.
+// One answer: notices, status, and the remainder's record number where the remainder is in the file.
 #[derive(Clone, Copy)]
 pub struct Part {
     pub notices: Notices,
     pub status: Status,
-    pub remains: usize,
+    pub remains: Option<usize>,
 }
 
-// The remainder: silent, the record of that number, or the record of that kind and body.
+// The remainder, three cases: silent, the record of that number, or a record to be looked up.
 #[derive(Clone, Copy)]
 pub enum Rest {
     Still,
     Old(usize),
-    New(Key),
+    New(Node),
 }
 
+// An answer whose remainder is still to be looked for, which a `Part`'s is not; none where a part of the remainder is not in the file, so that it isn't
+// either.
 #[derive(Clone, Copy)]
 pub struct Plan {
     pub notices: Notices,
     pub status: Status,
-    pub rest: Rest,
+    pub rest: Option<Rest>,
 }
 
 pub fn plan_silent() -> Plan
@@ -34,7 +35,7 @@ pub fn plan_silent() -> Plan
     Plan {
         notices: 0,
         status: Status::Waiting,
-        rest: Rest::Still,
+        rest: Some(Rest::Still),
     }
 }
 
@@ -42,147 +43,112 @@ pub fn plan_silent() -> Plan
 pub fn plan_event(r: usize, b: usize, event: u8) -> Plan
     ensures { result ≡ plan_event r (eqb b event) }
 {
-    if b == event as usize {
-        return Plan {
-            notices: 0,
-            status: Status::Success,
-            rest: Rest::Still,
-        };
-    }
+    let (status, rest) = if b == usize::from(event) {
+        (Status::Success, Rest::Still)
+    } else {
+        (Status::Waiting, Rest::Old(r))
+    };
     Plan {
         notices: 0,
-        status: Status::Waiting,
-        rest: Rest::Old(r),
+        status,
+        rest: Some(rest),
     }
 }
 
-fn new_rest(kind: u8, x: usize, y: u64) -> Rest
-    ensures { result ≡ Rest.New (record { kind = kind; x = x; y = y }) }
-{
-    Rest::New(Key { kind, x, y })
-}
-
+#[tactic(auto, unfolding(crate::specs::Plans::plan_not))]
 pub fn plan_not(p: Part) -> Plan
     ensures { result ≡ plan_not p }
 {
-    let s = p.status;
-    let rest = match s {
-        Status::Waiting => new_rest(3, p.remains, 0),
-        Status::Success => Rest::Still,
-        Status::Failure => Rest::Still,
+    let rest = match p.status {
+        Status::Waiting => p.remains.map(|x| Rest::New(Node::Not(x))),
+        Status::Success | Status::Failure => Some(Rest::Still),
     };
     Plan {
         notices: p.notices,
-        status: par::opposite(s),
+        status: p.status.opposite(),
         rest,
     }
 }
 
 // `x then y` and, where y is the record's own number, `repeat x`.
+#[tactic(auto, unfolding(crate::specs::Plans::plan_next))]
 pub fn plan_next(p: Part, y: usize) -> Plan
     ensures { result ≡ plan_next p y }
 {
-    let s = p.status;
-    match s {
-        Status::Waiting => Plan {
-            notices: p.notices,
-            status: Status::Waiting,
-            rest: new_rest(5, p.remains, y as u64),
-        },
-        Status::Success => Plan {
-            notices: p.notices,
-            status: Status::Waiting,
-            rest: Rest::Old(y),
-        },
-        Status::Failure => Plan {
-            notices: p.notices,
-            status: Status::Failure,
-            rest: Rest::Still,
-        },
+    let (status, rest) = match p.status {
+        Status::Waiting => (
+            Status::Waiting,
+            p.remains.map(|x| Rest::New(Node::Then(x, y))),
+        ),
+        Status::Success => (Status::Waiting, Some(Rest::Old(y))),
+        Status::Failure => (Status::Failure, Some(Rest::Still)),
+    };
+    Plan {
+        notices: p.notices,
+        status,
+        rest,
     }
 }
 
+#[tactic(auto, unfolding(crate::specs::Plans::plan_notify, par::specs::Expr::join))]
 pub fn plan_notify(p: Part, set: Notices) -> Plan
     ensures { result ≡ plan_notify p set }
 {
-    let s = p.status;
-    match s {
-        Status::Waiting => Plan {
-            notices: p.notices,
-            status: s,
-            rest: new_rest(7, p.remains, set as u64),
-        },
-        Status::Success => Plan {
-            notices: p.notices | set,
-            status: s,
-            rest: Rest::Still,
-        },
-        Status::Failure => Plan {
-            notices: p.notices,
-            status: s,
-            rest: Rest::Still,
-        },
+    let (notices, rest) = match p.status {
+        Status::Waiting => (
+            p.notices,
+            p.remains.map(|x| Rest::New(Node::Notify(x, set))),
+        ),
+        Status::Success => (p.notices | set, Some(Rest::Still)),
+        Status::Failure => (p.notices, Some(Rest::Still)),
+    };
+    Plan {
+        notices,
+        status: p.status,
+        rest,
     }
 }
 
-fn either_rest(p: Part, q: Part) -> Rest
-    ensures { result ≡ (plan_either p q).rest }
+// Figure 4's rows for either; those for try, below, differ.
+fn either_rest(p: Part, q: Part) -> Option<Rest>
+    ensures { result ≡ rest_either p.status q.status p.remains q.remains }
 {
-    let s = p.status;
-    let t = q.status;
-    match s {
-        Status::Waiting => match t {
-            Status::Waiting => new_rest(4, p.remains, q.remains as u64),
-            Status::Success => Rest::Still,
-            Status::Failure => Rest::Old(p.remains),
-        },
-        Status::Success => Rest::Still,
-        Status::Failure => match t {
-            Status::Waiting => Rest::Old(q.remains),
-            Status::Success => Rest::Still,
-            Status::Failure => Rest::Still,
-        },
+    match (p.status, q.status) {
+        (Status::Waiting, Status::Waiting) => Some(Rest::New(Node::Either(p.remains?, q.remains?))),
+        (Status::Waiting, Status::Failure) => p.remains.map(Rest::Old),
+        (Status::Failure, Status::Waiting) => q.remains.map(Rest::Old),
+        _ => Some(Rest::Still),
     }
 }
 
+#[tactic(auto, unfolding(crate::specs::Plans::plan_either, par::specs::Expr::join))]
 pub fn plan_either(p: Part, q: Part) -> Plan
     ensures { result ≡ plan_either p q }
 {
-    let rest = either_rest(p, q);
-    let s = p.status;
-    let t = q.status;
     Plan {
         notices: p.notices | q.notices,
-        status: par::either_status(s, t),
-        rest,
+        status: par::either_status(p.status, q.status),
+        rest: either_rest(p, q),
     }
 }
 
-fn try_rest(p: Part, q: Part) -> Rest
-    ensures { result ≡ (plan_try p q).rest }
+fn try_rest(p: Part, q: Part) -> Option<Rest>
+    ensures { result ≡ rest_try p.status q.status p.remains q.remains }
 {
-    let s = p.status;
-    let t = q.status;
-    match s {
-        Status::Waiting => match t {
-            Status::Waiting => new_rest(8, p.remains, q.remains as u64),
-            Status::Success => Rest::Still,
-            Status::Failure => Rest::Old(p.remains),
-        },
-        Status::Success => Rest::Still,
-        Status::Failure => Rest::Still,
+    match (p.status, q.status) {
+        (Status::Waiting, Status::Waiting) => Some(Rest::New(Node::Try(p.remains?, q.remains?))),
+        (Status::Waiting, Status::Failure) => p.remains.map(Rest::Old),
+        _ => Some(Rest::Still),
     }
 }
 
+#[tactic(auto, unfolding(crate::specs::Plans::plan_try, par::specs::Expr::join))]
 pub fn plan_try(p: Part, q: Part) -> Plan
     ensures { result ≡ plan_try p q }
 {
-    let rest = try_rest(p, q);
-    let s = p.status;
-    let t = q.status;
     Plan {
         notices: p.notices | q.notices,
-        status: par::try_status(s, t),
-        rest,
+        status: par::try_status(p.status, q.status),
+        rest: try_rest(p, q),
     }
 }

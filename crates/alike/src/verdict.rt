@@ -1,231 +1,120 @@
 // The first fault of a proposal: pairs in file order, events ascending, 10 before 11 before 12 before 13. Events come outermost, so that each
 // list is filled once; of the faults found, that of the lowest pair is kept, and of one pair that at the first event.
-ghost use Rattle.std.specs.Prelude.{◌≡◌, true, cond, ◌+◌, ◌≤◌};
-ghost use Rattle.alike.specs.Columns.{expressions};
-ghost use Rattle.alike.specs.List.{Level};
-ghost use Rattle.alike.specs.Settled.{Records, Pairs, Within, row, ListedRow, Standing, Entries, PartFault, RowPart, Scanned, Named, Quiet};
+ghost use Rattle.std.specs.Prelude.{ℕ, ◌≡◌, ◌+◌, ◌≤◌, ◌<◌, false, length, get_or};
+ghost use Rattle.records.specs.Refusals.{number};
+ghost use Rattle.alike.specs.Tables.{expressions, left_in, right_in, Within};
+ghost use Rattle.alike.specs.Settled.{ListedRow, Standing, PartFault, RowPart, Scanned, Named, Quiet};
 ghost use Rattle.alike.specs.Verdict.{first_fault};
+ghost use Rattle.alike.specs.Outcome.{outcome_of};
 
+use crate::list;
+use crate::pair::Pair;
 use crate::plans::Part;
-use crate::{columns, list};
-use files::index::Spot;
-use par::Notices;
-use records::Key;
+use crate::tables::{Pairs, Records};
+use par::{Node, Status};
+use records::Refusal;
 
-// The first fault: its number and the pair that has it; 0 and the number of the pairs where there is none.
+// A fault, and the pair that has it.
 #[derive(Clone, Copy)]
 pub struct Fault {
-    pub number: u8,
+    pub refusal: Refusal,
     pub pair: usize,
 }
 
-// The first closing condition that two answers fail; 0 where they meet all.
-#[tactic(auto, using(crate::proofs::Scanning::right_missing))]
-fn fault_between(
-    marks: &[u8],
-    lefts: &[usize],
-    rights: &[u64],
-    px: &[usize],
-    listed: usize,
-    entries: usize,
-    p: Part,
-    q: Part,
-) -> u8
-    requires { Pairs marks.now lefts.now rights.now px.now listed entries }
-    ensures { PartFault (ListedRow (row lefts.now) (row rights.now) listed) p q result }
+// The first closing condition that two answers fail, if they fail one.
+fn fault_between(pairs: &Pairs, p: Part, q: Part) -> Result<(), Refusal>
+    ensures { PartFault (ListedRow (left_in pairs.now.listed.now) (right_in pairs.now.listed.now) (length pairs.now.listed.now)) p q (number result) }
 {
     if p.notices != q.notices {
-        return 10;
+        return Err(Refusal::NoticesDiffer);
     }
-    let s = p.status;
-    let t = q.status;
-    if par::status_byte(s) != par::status_byte(t) {
-        return 11;
+    if p.status != q.status {
+        return Err(Refusal::StatusesDiffer);
     }
-    let left = p.remains;
-    let right = q.remains;
-    if left == 1024 {
-        return 12;
+    let left = p.remains.ok_or(Refusal::RemainderNotInFile)?;
+    let right = q.remains.ok_or(Refusal::RemainderNotInFile)?;
+    if left != right && !pairs.lists(Pair { left, right }) {
+        return Err(Refusal::RemaindersNotListed);
     }
-    if right == 1024 {
-        return 12;
-    }
-    if left == right {
-        return 0;
-    }
-    let key = Key {
-        kind: 16,
-        x: left,
-        y: right as u64,
-    };
-    match columns::find(marks, lefts, rights, px, listed, entries, key) {
-        Spot::Here(_) => 0,
-        Spot::Gap(_) => 13,
-    }
+    Ok(())
 }
 
 // The best fault, one event's list further: the first fault among the pairs before its own, if there is one.
-fn scan(
-    marks: &[u8],
-    lefts: &[usize],
-    rights: &[u64],
-    px: &[usize],
-    listed: usize,
-    entries: usize,
-    notices: &[Notices],
-    statuses: &[u8],
-    remains: &[usize],
-    best: Fault,
-) -> Fault
-    requires pairs { Pairs marks.now lefts.now rights.now px.now listed entries × (best.pair ≤ listed) }
-    requires entries { Entries notices.now statuses.now remains.now lefts.now rights.now listed }
-    ensures { Scanned (RowPart notices.now statuses.now remains.now
-        lefts.now rights.now listed) best result }
+fn scan(pairs: &Pairs, parts: &[Part], best: Option<Fault>) -> Option<Fault>
+    requires before { (outcome_of best (length pairs.now.listed.now)).pair ≤ length pairs.now.listed.now }
+    requires within { Within (length parts.now) pairs.now.listed.now }
+    ensures { Scanned (RowPart parts.now pairs.now.listed.now) (outcome_of best (length pairs.now.listed.now))
+        (outcome_of result (length pairs.now.listed.now)) }
 {
-    let end = best.pair;
-    let mut i = 0;
-    while i < end {
-        let p = list::part_at(notices, statuses, remains, lefts[i]);
-        let q = list::part_at(notices, statuses, remains, rights[i] as usize);
-        let number = fault_between(marks, lefts, rights, px, listed, entries, p, q);
-        if number != 0 {
-            return Fault { number, pair: i };
+    let end = best.map_or(pairs.listed.len(), |fault| fault.pair);
+    for (i, pair) in pairs.listed[..end].iter().enumerate() {
+        if let Err(refusal) = fault_between(pairs, parts[pair.left], parts[pair.right]) {
+            return Some(Fault { refusal, pair: i });
         }
-        i += 1;
     }
     best
 }
 
-// Whether a record is this event.
-fn named(kinds: &[u8], xs: &[usize], ys: &[u64], ix: &[usize], count: usize, event: u8) -> bool
-    requires { Records kinds.now xs.now ys.now ix.now count }
-    ensures { Named kinds.now xs.now ys.now count event result }
+// Which events a record names.
+fn named_events(nodes: &[Node]) -> [bool; 256]
+    ensures { (a : ℕ) → a < 256 → Named nodes.now (length nodes.now) a (get_or result a false) }
 {
-    let key = Key {
-        kind: 2,
-        x: event as usize,
-        y: 0,
-    };
-    match columns::find(kinds, xs, ys, ix, count, count, key) {
-        Spot::Here(_) => true,
-        Spot::Gap(_) => false,
+    let mut named = [false; 256];
+    for node in nodes {
+        if let Node::Event(event) = node {
+            named[usize::from(*event)] = true;
+        }
     }
+    named
 }
 
 // The best fault on the events up to this one, from that on the events before it. Events that no record names are answered alike, so that
 // one of them is enough: this one is passed over where it is such (not `known`) and one has come before (`quiet`).
 fn at_event(
-    kinds: &[u8],
-    xs: &[usize],
-    ys: &[u64],
-    ix: &[usize],
-    count: usize,
-    marks: &[u8],
-    lefts: &[usize],
-    rights: &[u64],
-    px: &[usize],
-    listed: usize,
-    entries: usize,
+    records: &Records,
+    pairs: &Pairs,
     event: u8,
     known: bool,
     quiet: bool,
-    notices: &mut [Notices],
-    statuses: &mut [u8],
-    remains: &mut [usize],
-    best: Fault,
-) -> Fault
-    requires records { Records kinds.now xs.now ys.now ix.now count × Level count notices.old statuses.old remains.old }
-    requires pairs { Pairs marks.now lefts.now rights.now px.now listed entries × Within count lefts.now rights.now listed }
-    requires named { Named kinds.now xs.now ys.now count event known × Quiet kinds.now xs.now ys.now count event quiet }
-    requires standing { Standing kinds.now xs.now ys.now count lefts.now rights.now listed event best }
-    ensures { Standing kinds.now xs.now ys.now count lefts.now rights.now listed (event + 1) result }
+    parts: &mut [Part],
+    best: Option<Fault>,
+) -> Option<Fault>
+    requires room { length records.now.nodes.now ≤ length parts.old }
+    requires within { Within (length records.now.nodes.now) pairs.now.listed.now }
+    requires named { Named records.now.nodes.now (length records.now.nodes.now) event known }
+    requires passed { Quiet records.now.nodes.now event quiet }
+    requires standing { Standing records.now.nodes.now pairs.now.listed.now event (outcome_of best (length pairs.now.listed.now)) }
+    ensures { Standing records.now.nodes.now pairs.now.listed.now (event + 1) (outcome_of result (length pairs.now.listed.now)) }
 {
-    if !known {
-        if quiet {
-            return best;
-        }
+    if quiet && !known {
+        return best;
     }
-    list::fill(
-        kinds,
-        xs,
-        ys,
-        ix,
-        count,
-        event,
-        &mut *notices,
-        &mut *statuses,
-        &mut *remains,
-    );
-    scan(
-        marks, lefts, rights, px, listed, entries, &*notices, &*statuses, &*remains, best,
-    )
+    list::fill(records, event, parts);
+    scan(pairs, parts, best)
 }
 
-// Whether an event that no record names has been passed, one event further.
-fn quieter(known: bool, quiet: bool) -> bool
-    ensures { result ≡ cond known quiet true }
+// The first fault over all pairs and all events. Nothing comes before a fault of the first pair. That the pairs name records that are there stays a
+// clause: it ties two values, which `settle` alone makes.
+pub fn first_fault(records: &Records, pairs: &Pairs) -> Option<Fault>
+    requires { Within (length records.now.nodes.now) pairs.now.listed.now }
+    ensures { outcome_of result (length pairs.now.listed.now) ≡ first_fault (expressions records.now.nodes.now) (length records.now.nodes.now)
+        (left_in pairs.now.listed.now) (right_in pairs.now.listed.now) (length pairs.now.listed.now) }
 {
-    if known {
-        return quiet;
-    }
-    true
-}
-
-// The first fault over all pairs and all events. Nothing comes before a fault of the first pair.
-pub fn first_fault(
-    kinds: &[u8],
-    xs: &[usize],
-    ys: &[u64],
-    ix: &[usize],
-    count: usize,
-    marks: &[u8],
-    lefts: &[usize],
-    rights: &[u64],
-    px: &[usize],
-    listed: usize,
-    entries: usize,
-) -> Fault
-    requires records { Records kinds.now xs.now ys.now ix.now count }
-    requires pairs { Pairs marks.now lefts.now rights.now px.now listed entries × Within count lefts.now rights.now listed }
-    ensures { result ≡ first_fault (expressions kinds.now xs.now ys.now) count
-        (row lefts.now) (row rights.now) listed }
-{
-    let mut notices: [Notices; 1024] = [0; 1024];
-    let mut statuses = [0u8; 1024];
-    let mut remains = [0usize; 1024];
-    let mut best = Fault {
-        number: 0,
-        pair: listed,
-    };
+    let mut parts = [Part {
+        notices: 0,
+        status: Status::Waiting,
+        remains: None,
+    }; 1024];
+    let named = named_events(records.nodes);
+    let mut best: Option<Fault> = None;
     let mut quiet = false;
-    let mut event: usize = 0;
-    while event < 256 {
-        if best.pair == 0 {
+    for event in 0..=u8::MAX {
+        if let Some(Fault { pair: 0, .. }) = best {
             return best;
         }
-        let known = named(kinds, xs, ys, ix, count, event as u8);
-        best = at_event(
-            kinds,
-            xs,
-            ys,
-            ix,
-            count,
-            marks,
-            lefts,
-            rights,
-            px,
-            listed,
-            entries,
-            event as u8,
-            known,
-            quiet,
-            &mut notices,
-            &mut statuses,
-            &mut remains,
-            best,
-        );
-        quiet = quieter(known, quiet);
-        event += 1;
+        let known = named[usize::from(event)];
+        best = at_event(records, pairs, event, known, quiet, &mut parts, best);
+        quiet |= !known;
     }
     best
 }

@@ -1,22 +1,37 @@
--- `alike::settle` meets its contract: the columns are those of the two files.
-use mathlib.Core.Path.{◌∙◌}
-use native.Mathlib.Omega.{arith}
-use Rattle.alike.proofs.Readying.{count_few, listed_few, records_ready, pairs_ready, within_ready, closing_ready}
+-- `alike::settle` meets its contract: the records and the pairs are those of the two files.
+use Rattle.std.proofs.Common.{rules, sym, ap, ◌∙◌}
+use Rattle.alike.specs.Outcome.{outcome_of}
+use Rattle.alike.proofs.Readying.{count_few, listed_few, held_ready, indexed_ready, pairs_ready, within_ready, closing_ready}
 use Rattle.alike.proofs.settle.Goals as goal
 
+pub slice_bounds-nodes-end : goal.slice_bounds-nodes-end
+slice_bounds-nodes-end c = count_few c.requires
+
+pub slice_bounds-nodes-end-2 : goal.slice_bounds-nodes-end-2
+slice_bounds-nodes-end-2 c = let few = count_few c.requires in search rules
+
 pub decode-requires : goal.decode-requires
-decode-requires c = let n = count_few c.requires in
-    (c.requires.at_room, record { kinds_long = omega arith; xs_long = omega arith; ys_long = omega arith })
+decode-requires c = let few = count_few c.requires in search rules
+
+pub slice_bounds-listed-end : goal.slice_bounds-listed-end
+slice_bounds-listed-end c = listed_few c.requires
+
+pub slice_bounds-listed-end-2 : goal.slice_bounds-listed-end-2
+slice_bounds-listed-end-2 c = let few = listed_few c.requires in search rules
 
 pub split-requires : goal.split-requires
-split-requires c = let n = listed_few c.requires in
-    (c.requires.places_room, record { kinds_long = omega arith; xs_long = omega arith; ys_long = omega arith })
+split-requires c = let few = listed_few c.requires in search rules
+
+pub invariant_of-records : goal.invariant_of-records
+invariant_of-records c = record { held = held_ready c.requires c.decode.ensures; sorted = indexed_ready c.requires c.decode.ensures }
+
+pub invariant_of-pairs : goal.invariant_of-pairs
+invariant_of-pairs c = record { sorted = pairs_ready c.sort-entries.ensures }
 
 pub first_fault-requires : goal.first_fault-requires
-first_fault-requires c = record {
-  records = records_ready c.requires c.decode.ensures (λ i. omega (arith, c.type_inv.expressions i));
-  pairs = (pairs_ready c.requires c.split.ensures c.sort-entries.ensures, within_ready c.requires c.split.ensures);
-}
+first_fault-requires c = within_ready c.requires c.split.ensures c.decode.ensures
 
 pub returns : goal.returns
-returns c = c.first_fault.ensures ∙ closing_ready c.requires c.split.ensures c.decode.ensures
+returns c =
+    ap (outcome_of c.first_fault.result) (sym c.split.ensures.long) ∙ c.first_fault.ensures
+    ∙ closing_ready c.requires c.split.ensures c.decode.ensures

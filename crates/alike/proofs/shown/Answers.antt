@@ -1,10 +1,13 @@
 -- `alike::shown` meets its contract.
-use mathlib.Core.Path.{◌∙◌}
+use Rattle.std.proofs.Common.{ap, ◌∙◌}
+use Rattle.alike.specs.Told.{in_pairs}
 use Rattle.alike.proofs.Tails.{shown_pairs, shown_expressions}
 use Rattle.alike.proofs.shown.Goals as goal
 
-pub returns-then-v : goal.returns-then-v
-returns-then-v c = c.tail.ensures ∙ shown_pairs c.args.expressions.now c.args.pairs.now c.verdict_of-v.ensures c.if-v.true
+pub returns-in-Expressions : goal.returns-in-Expressions
+returns-in-Expressions c =
+    c.tail.ensures ∙ shown_expressions c.args.expressions.now c.args.pairs.now c.verdict_of-judged.ensures (ap in_pairs c.in-Expressions.is)
 
-pub returns : goal.returns
-returns c = c.tail-2.ensures ∙ shown_expressions c.args.expressions.now c.args.pairs.now c.verdict_of-v.ensures c.if-v.false
+pub returns-in-Pairs : goal.returns-in-Pairs
+returns-in-Pairs c =
+    c.tail-in-Pairs.ensures ∙ shown_pairs c.args.expressions.now c.args.pairs.now c.verdict_of-judged.ensures (ap in_pairs c.in-Pairs.is)

@@ -1,12 +1,8 @@
--- `alike::list::fill` meets its contract. The loop's invariant is `Filling`, and its measure the number of entries that are left.
-use Prim.Native.Nat.{◌-◌}
-use Rattle.alike.specs.Columns.{expressions}
-use Rattle.alike.proofs.Filling.{Filling}
+-- `alike::list::fill` meets its contract: the entries before r are what the figures give.
+use Rattle.std.proofs.Common.{length}
+use Rattle.alike.specs.Tables.{expressions}
+use Rattle.alike.specs.List.{Filled}
 use Rattle.alike.proofs.list.fill.Given as goal
 
 abbrev pub invariant-loop-r : goal.invariant-loop-r
-invariant-loop-r l = Filling (expressions l.kinds l.xs l.ys) l.count l.event l.initial.notices l.initial.statuses l.initial.remains
-    l.notices l.statuses l.remains l.r
-
-abbrev pub decreases-loop-r : goal.decreases-loop-r
-decreases-loop-r l = l.count - l.r
+invariant-loop-r l = let nodes = l.records.nodes.now in Filled (expressions nodes) (length nodes) l.event l.parts l.r

@@ -1,29 +1,45 @@
 -- `alike::verdict::fault_between` meets its contract: the tests in their order, and the look-up of the pair.
-use mathlib.Core.Logic.{inl, inr}
-use mathlib.Core.Path.{ap}
-use native.Mathlib.Omega.{arith}
-use Rattle.par.specs.Status.{status_byte}
+use Rattle.std.proofs.Common.{rules, ◌≡◌, ◌≢◌, inl, inr, Some, None}
+use Rattle.records.specs.Refusals.{number}
 use Rattle.alike.specs.Settled.{PartFault.notices_apart, PartFault.statuses_apart, PartFault.one_missing, PartFault.unlisted, PartFault.all_met}
-use Rattle.alike.proofs.Faults.{status_one}
-use Rattle.alike.proofs.Scanning.{here_listed, gap_unlisted}
+use Rattle.alike.proofs.Scanning.{lists_row, row_lists}
 use Rattle.alike.proofs.verdict.fault_between.Goals as goal
+use Rattle.alike.proofs.verdict.fault_between.Goals.{else-left-right-via-then-left-right+else-not-lists, else-left-right-via-else-left-right}
 
 pub returns-then-p-q : goal.returns-then-p-q
 returns-then-p-q c = notices_apart c.if-p-q.true
 
-pub returns-then-status_byte : goal.returns-then-status_byte
-returns-then-status_byte c = statuses_apart (cc) (λ e. c.if-status_byte.true (cc (ap status_byte e)))
+pub returns-then-ne : goal.returns-then-ne
+returns-then-ne c = let apart : c.args.p.status ≢ c.args.q.status = search rules in statuses_apart (cc) apart
 
-pub returns-then-left-eq1024 : goal.returns-then-left-eq1024
-returns-then-left-eq1024 c = one_missing (cc) (status_one _ _ (cc)) (inl c.if-left-eq1024.true)
+pub returns-in_err-left : goal.returns-in_err-left
+returns-in_err-left c =
+    let twelve : number c.from_residual.result ≡ 12 = search rules in
+    let none : c.args.p.remains ≡ None = search rules in
+    let same : c.args.p.status ≡ c.args.q.status = search rules in
+    rw twelve (one_missing (cc) same (inl none))
 
-pub returns-then-left-right : goal.returns-then-left-right
-returns-then-left-right c = all_met (cc) (status_one _ _ (cc)) c.if-left-eq1024.false (omega arith) (inl c.if-left-right.true)
+pub returns-in_err-right : goal.returns-in_err-right
+returns-in_err-right c =
+    let twelve : number c.from_residual-in_err-right.result ≡ 12 = search rules in
+    let none : c.args.q.remains ≡ None = search rules in
+    let same : c.args.p.status ≡ c.args.q.status = search rules in
+    rw twelve (one_missing (cc) same (inr none))
 
-pub returns-in-Here : goal.returns-in-Here
-returns-in-Here c = all_met (cc) (status_one _ _ (cc)) c.if-left-eq1024.false (omega arith)
-    (inr (here_listed c.requires (rw c.in-Here.is at c.find.ensures)))
+pub returns-then-not-lists : goal.returns-then-not-lists
+returns-then-not-lists c =
+    let left : c.args.p.remains ≡ Some c.in_ok-left.left = search rules in
+    let right : c.args.q.remains ≡ Some c.in_ok-right.right = search rules in
+    let same : c.args.p.status ≡ c.args.q.status = search rules in
+    unlisted (cc) same left right c.if-left-right.true (λ l. let h = c.if-not-lists.ensures.1 (row_lists _ _ _ l) in cc)
 
-pub returns-in-Gap : goal.returns-in-Gap
-returns-in-Gap c = unlisted (cc) (status_one _ _ (cc)) c.if-left-eq1024.false (omega arith) c.if-left-right.false
-    (gap_unlisted c.requires (rw c.in-Gap.is at c.find.ensures))
+pub returns : goal.returns
+returns c =
+    let left : c.args.p.remains ≡ Some c.in_ok-left.left = search rules in
+    let right : c.args.q.remains ≡ Some c.in_ok-right.right = search rules in
+    let same : c.args.p.status ≡ c.args.q.status = search rules in
+    all_met (cc) same left right
+    (elim c.else-left-right.branch [
+      | else-left-right-via-then-left-right+else-not-lists w ↦ inr (lists_row _ _ _ (w.if-not-lists.ensures.0 (search rules)))
+      | else-left-right-via-else-left-right w ↦ inl w.if-left-right.false
+    ])

@@ -1,7 +1,8 @@
 -- `alike::verdict::first_fault` meets its contract: before each event the verdict on the events before it stands.
-use mathlib.Core.Path.{◌≡◌, refl}
-use native.Mathlib.Omega.{arith}
-use borrow.Author.Rules.{rules}
+use Rattle.std.proofs.Common.{rules, arith, ◌≡◌, ap, length}
+use Rattle.records.specs.Refusals.{number_of}
+use Rattle.alike.specs.Outcome.{outcome_of}
+use Rattle.alike.specs.Verdict.{Outcome, outcome}
 use Rattle.alike.specs.Settled.{Quiet.not_yet}
 use Rattle.alike.proofs.Settling.{settled_none, settled_early}
 use Rattle.alike.proofs.Quiet.{quiet_more}
@@ -9,22 +10,21 @@ use Rattle.alike.proofs.Scanning.{standing_first}
 use Rattle.alike.proofs.verdict.first_fault.Goals as goal
 
 pub loop-event-init : goal.loop-event-init
-loop-event-init c = (search rules, refl, refl, refl, not_yet, settled_none)
+loop-event-init c = record { passed = not_yet; standing = settled_none }
 
-pub returns-then-best-eq0 : goal.returns-then-best-eq0
-returns-then-best-eq0 c = standing_first c.requires.records.held c.requires.pairs.1
-    (settled_early c.if-best-eq0.true c.loop-event.invariant.0 c.loop-event.invariant.5)
+pub returns-in-Some-eq0 : goal.returns-in-Some-eq0
+returns-in-Some-eq0 c =
+    standing_first c.args.records.now.nodes.now c.args.pairs.now.listed.now c.args.records.now.held
+    (settled_early (let e : outcome_of c.loop-event.best (length c.args.pairs.now.listed.now) ≡ outcome (number_of c.in-Some-eq0.field-0.refusal) 0 = search rules in ap (λ (o : Outcome). o.pair) e) (omega arith) c.loop-event.invariant.standing)
 
 pub loop-event-preserved : goal.loop-event-preserved
-loop-event-preserved c = (
-  omega arith,
-  search rules,
-  search rules,
-  search rules,
-  rw c.quieter-quiet.ensures (quiet_more c.named-known.ensures c.loop-event.invariant.4),
-  c.at_event-best.ensures,
-)
+loop-event-preserved c =
+    record {
+      passed = rw c.from.ensures (quiet_more (c.named_events-named.ensures c.loop-event.event (omega arith)) c.loop-event.invariant.passed);
+      standing = c.at_event-best.ensures;
+    }
 
-pub returns : goal.returns
-returns c = let e : c.loop-event.event ≡ 256 = omega arith in
-    standing_first c.requires.records.held c.requires.pairs.1 (rw e at c.loop-event.invariant.5)
+pub returns-after-best : goal.returns-after-best
+returns-after-best c =
+    let e : c.loop-event.event ≡ 255 = omega arith in
+    standing_first c.args.records.now.nodes.now c.args.pairs.now.listed.now c.args.records.now.held (rw e at c.at_event-best.ensures)

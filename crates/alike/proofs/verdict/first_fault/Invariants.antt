@@ -1,13 +1,12 @@
 -- `alike::verdict::first_fault` meets its contract: before each event the verdict on the events before it stands.
-use mathlib.Core.Path.{◌≡◌}
-use Prim.Native.Nat.{◌≤◌, ◌-◌}
 use lib.ListN.{length}
 use Rattle.alike.specs.Settled.{Standing, Quiet}
+use Rattle.alike.specs.Outcome.{outcome_of}
 use Rattle.alike.proofs.verdict.first_fault.Given as goal
 
 abbrev pub invariant-loop-event : goal.invariant-loop-event
-invariant-loop-event l = (l.event ≤ 256) × (length l.notices ≡ 1024) × (length l.statuses ≡ 1024) × (length l.remains ≡ 1024)
-    × Quiet l.kinds l.xs l.ys l.count l.event l.quiet × Standing l.kinds l.xs l.ys l.count l.lefts l.rights l.listed l.event l.best
-
-abbrev pub decreases-loop-event : goal.decreases-loop-event
-decreases-loop-event l = 256 - l.event
+invariant-loop-event l =
+    record {
+      passed : Quiet l.records.nodes.now l.event l.quiet;
+      standing : Standing l.records.nodes.now l.pairs.listed.now l.event (outcome_of l.best (length l.pairs.listed.now));
+    }
