@@ -16,8 +16,7 @@ use Rattle.records.specs.Says.{Says as Reads, Says.accepted as r_accepted, Says.
 use Rattle.records.proofs.Says.{stands_onward}
 use Rattle.files.specs.Reading.{PairBody}
 use Rattle.files.proofs.Readings.{reading_within, reading_pairs_says, reading_pairs_within}
-use Rattle.alike.specs.declared.Judged.{Judged}
-use Rattle.alike.specs.Proposal.{records, listing}
+use Rattle.alike.specs.Proposal.{records, listing, Verdict}
 use Rattle.alike.specs.Proposal.{Says, Says.expressions_at_fault, Says.pairs_at_fault, Says.pair_at_fault, Says.accepted}
 use Rattle.alike.specs.Verdict.{judged, shown_of}
 use Rattle.alike.proofs.Judging.{judged_says}
@@ -49,10 +48,10 @@ module _ (s : List ℕ) (contents : Contents) (Body : ℕ → List ℕ → ℕ �
   record_inside : {f : Found} → Reads s contents Body f → (i : ℕ) → i < length f.places → get_or f.places i 0 ≤ length s
   record_inside (r_accepted before stands some) = sound_inside before
   record_inside (r_empty before stands) = sound_inside before
-  record_inside (r_refused before stands) = sound_inside before
+  record_inside (r_refused before stands e) = sound_inside before
   record_inside (r_body before stands fault) = sound_inside before
 
-verdict_inside : (es ps : List ℕ) {v : Judged} → Says es ps v → v.place ≤ length (file_in (part_of v) es ps)
+verdict_inside : (es ps : List ℕ) {v : Verdict} → Says es ps v → v.place ≤ length (file_in (part_of v) es ps)
 unfolding listing
 verdict_inside es ps (expressions_at_fault e) = (reading_within es).0
 verdict_inside es ps (pairs_at_fault e p) = (reading_pairs_within ps (records es)).0

@@ -4,7 +4,6 @@ use mathlib.Core.Path.{◌≡◌, sym, ◌∙◌}
 use mathlib.Core.List.{List}
 use lib.ListN.{length}
 use Rattle.engine.specs.declared.Desk.{Desk}
-use Rattle.engine.specs.declared.feed.Ran.{Ran}
 use Rattle.engine.specs.Feed.{Fed}
 use Rattle.engine.specs.Mirror.Desk.{empty_desk, opened_of, stepped_of}
 use Rattle.engine.proofs.Runs.{fed_one}
@@ -12,6 +11,7 @@ use Rattle.alike.specs.Verdict.{judged, shown_of}
 use Rattle.printout.specs.Text.{text}
 use Rattle.printout.specs.Printed.{PrintedAs}
 use Rattle.printout.proofs.Outputs.{printed_one}
+use Rattle.meadwhistle.specs.declared.Ran.{Ran}
 use Rattle.meadwhistle.specs.declared.FlatReply.{FlatReply}
 use Rattle.meadwhistle.specs.declared.Part.{Part}
 use Rattle.meadwhistle.specs.Flat.{flat_reply}
@@ -33,9 +33,11 @@ part_inside = Parts.part_inside
 one : {A : Type 0} {x r r' : A} → r ≡ x → r' ≡ x → r ≡ r'
 one p q = p ∙ sym q
 
-pub run_one : (rule events : List ℕ) (place : ℕ) (answers : List ℕ) {r r' : Ran} {b b' : List ℕ} → Fed rule events place answers r b
-    → Fed rule events place answers r' b' → (r ≡ r') × (b ≡ b')
-run_one rule events place answers = fed_one
+pub run_one : (rule events : List ℕ) (place : ℕ) (answers : List ℕ) {r r' : Ran} {b b' : List ℕ}
+    → Fed rule events place answers r.number r.written b → Fed rule events place answers r'.number r'.written b' → (r ≡ r') × (b ≡ b')
+run_one rule events place answers p q =
+    let o = fed_one p q in
+    (λ i. record { number = o.0 i; written = o.1 i }, o.2)
 
 pub desk_empty_one : {r r' : Desk} → r ≡ empty_desk → r' ≡ empty_desk → r ≡ r'
 desk_empty_one = one

@@ -1,10 +1,10 @@
 -- The part of a proposal's two files that is shown: which file, and where in it the part begins.
 use Rattle.std.specs.Prelude.{ℕ, cond, List, eqb, drop}
-use Rattle.alike.specs.declared.Judged.{Judged}
+use Rattle.alike.specs.Proposal.{Verdict}
 use Rattle.meadwhistle.specs.declared.Part.{Part}
 
 -- file 0 is the expressions, 1 the pairs
-abbrev pub part_of : Judged → Part
+abbrev pub part_of : Verdict → Part
 part_of v = record { file = cond v.in_pairs 1 0; place = v.place }
 
 -- the file that a part is of

@@ -1,4 +1,5 @@
-// The exports: each calls the function of its name in the library `meadwhistle`, and has its clauses.
+// The exports: each calls the function of its name in the library `meadwhistle`, and has its clauses. C needs both: a static library's functions can be
+// called from C alone, and their contracts are proved of a library's.
 #![tactic(auto)]
 
 ghost use Rattle.std.specs.Prelude.{◌≡◌};
@@ -12,8 +13,8 @@ ghost use Rattle.printout.specs.Printed.{PrintedAs};
 ghost use Rattle.meadwhistle.specs.Flat.{flat_reply, FlatByTheBook};
 ghost use Rattle.meadwhistle.specs.Part.{part_of};
 
-use engine::{Desk, Ran};
-use meadwhistle::{FlatReply, Part};
+use engine::Desk;
+use meadwhistle::{FlatReply, Part, Ran};
 
 #[unsafe(no_mangle)]
 pub extern "C" fn meadwhistle_run(
@@ -22,7 +23,7 @@ pub extern "C" fn meadwhistle_run(
     answers: &mut [u8],
     place: usize,
 ) -> Ran
-    ensures { Fed rule.now events.now place answers.old result answers.new }
+    ensures { Fed rule.now events.now place answers.old result.number result.written answers.new }
 {
     meadwhistle::meadwhistle_run(rule, events, answers, place)
 }

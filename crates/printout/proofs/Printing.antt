@@ -1,6 +1,6 @@
 -- The loop of `put_lines`: what has been written, with the lines of the records that are left behind it, is the whole.
 use Prim.Native.Nat.{ℕ, ◌+◌, ◌*◌, ◌-◌, ◌≤◌, ◌<◌}
-use mathlib.Core.Path.{◌≡◌, refl, ap, ◌∙◌}
+use mathlib.Core.Path.{◌≡◌, ap, ◌∙◌}
 use mathlib.Core.List.{List, [], ◌++◌, append_assoc, append-nil}
 use native.Mathlib.Omega.{arith}
 use native.Mathlib.Numerals.{add-one}
@@ -37,15 +37,9 @@ lines_one events i h output from = rw (drop-cons events i 0 h, add-one i) (simp 
 -- ---- the loop's invariant
 
 pub record Printing (events output₀ output : List ℕ) (i : ℕ) : Type 0 where
-  pub inside : i ≤ length events
   pub long : length output ≡ length output₀
   pub rest : take (16 * i) output ++ lines_in (drop i events) (drop (9 * length events + 7 * i) output)
       ≡ lines_in events (drop (9 * length events) output₀)
-
-pub printing_begins : (events output₀ : List ℕ) → Printing events output₀ output₀ 0
-printing_begins events output₀ =
-    let z : 9 * length events + 0 ≡ 9 * length events = omega arith in
-    record { inside = omega arith; long = refl; rest = rw z }
 
 module _ {events output₀ output : List ℕ} {i : ℕ} (room : length output₀ ≡ 16 * length events) (now : Printing events output₀ output i) where
   pub printing_turn : i < length events → {n : ℕ} {s : Status} {back : List ℕ}
@@ -63,7 +57,6 @@ module _ {events output₀ output : List ℕ} {i : ℕ} (room : length output₀
       let next : 16 * (i + 1) ≡ at + 16 = omega arith in
       let next-from : 9 * length events + 7 * (i + 1) ≡ from + 7 = omega arith in
       record {
-        inside = omega arith;
         long = ap length written ∙ length-sets output at bytes ∙ long;
         rest =
             rw (written, next, next-from, take_sets output at bytes 16 wide (omega arith), drop_sets output at bytes (from + 7) (omega arith), append_assoc)

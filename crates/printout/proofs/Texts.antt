@@ -13,13 +13,15 @@ use Rattle.par.specs.declared.Answer.{Answer}
 use Rattle.par.specs.Expr.{Expr, size}
 use Rattle.par.specs.Step.{status as status_of, notices as notices_of, remainder}
 use Rattle.par.specs.Feed.{answers, Bytes}
+use Rattle.records.specs.declared.refusal.Refusal.{Refusal}
+use Rattle.records.specs.Refusals.{number_of}
+use Rattle.records.proofs.Refusals.{refusal_some}
 use Rattle.records.specs.Fields.{word_at}
 use Rattle.records.proofs.Tests.{cond_case, cond_all}
 use Rattle.files.specs.Rule.{rule, rule_number}
-use Rattle.files.proofs.RuleNumbers.{rule_number_lem}
 use Rattle.ready.specs.declared.Ready.{Ready}
 use Rattle.ready.specs.Mirror.Ready.{ready_of}
-use Rattle.ready.proofs.Promises.{ready_number, ready_long, root_few, root_size}
+use Rattle.ready.proofs.Promises.{root_size}
 use Rattle.engine.specs.Feed.{answer_bytes}
 use Rattle.engine.specs.Mirror.Feed.{fed_from, fed_bytes}
 use Rattle.engine.proofs.Bytes.{all_bytes}
@@ -144,41 +146,34 @@ text_stands s {output} {n} {l} p room =
 
 -- ---- the code: an input whose rule file is k bytes long, and the rule of that file
 
-module _ (s : List ℕ) {k : ℕ} (is : k ≡ word_at s 0 0) {n : Ready} (made : n ≡ ready_of (take (2 + k - 2) (drop 2 s))) where
-  ready_in : n ≡ ready_of (rule_in s)
-  ready_in =
+module _ (s : List ℕ) {k : ℕ} (is : k ≡ word_at s 0 0) (few : length s ≤ 8192) (some : 2 ≤ length s) (whole : k ≤ length s - 2) where
+  file_in : take (2 + k - 2) (drop 2 s) ≡ rule_in s
+  file_in =
       let e : 2 + k - 2 ≡ word_at s 0 0 = omega arith in
-      made ∙ ap (λ (m : ℕ). ready_of (take m (drop 2 s))) e
+      ap (λ (m : ℕ). take m (drop 2 s)) e
 
-  number_in : n.number ≡ rule_number (rule_in s)
-  number_in = ap (λ (r : Ready). r.number) ready_in ∙ ready_number (rule_in s)
+  pub text_refused_in : (r : Refusal) → number_of r ≡ rule_number (take (2 + k - 2) (drop 2 s)) → text s ≡ refused_text (number_of r)
+  text_refused_in r e =
+      let is-number : number_of r ≡ rule_number (rule_in s) = e ∙ ap rule_number file_in in
+      rw is-number (text_refused s few some (omega arith) (λ z. refusal_some r (is-number ∙ z)))
 
-  pub number_two_digits : n.number < 100
-  number_two_digits = omega (arith, rule_number_lem (rule_in s), number_in)
+  events_in_lem : take (length s - (2 + k)) (drop (2 + k) s) ≡ events_in s
+  events_in_lem = take_all (length s - (2 + k)) (drop (2 + k) s) (rw (length-drop (2 + k) s) (omega arith)) ∙ ap (λ (m : ℕ). drop (2 + m) s) is
 
-  pub nodes_wide : (length n.nodes ≡ 64) × (length n.gain ≡ 64)
-  nodes_wide = rw ready_in (ready_long (rule_in s))
+  module _ (small : (i : ℕ) → get_or s i 0 < 256) {n : Ready} (made : n ≡ ready_of (take (2 + k - 2) (drop 2 s)))
+      (accepted : 0 ≡ rule_number (take (2 + k - 2) (drop 2 s))) where
+    ready_in : n ≡ ready_of (rule_in s)
+    ready_in = made ∙ ap ready_of file_in
 
-  pub root_in : n.number ≡ 0 → n.root < 64
-  root_in e = rw ready_in (root_few (rule_in s) (sym number_in ∙ e))
+    accepts : rule_number (rule_in s) ≡ 0
+    accepts = sym (accepted ∙ ap rule_number file_in)
 
-  module _ (few : length s ≤ 8192) (some : 2 ≤ length s) (whole : k ≤ length s - 2) where
-    pub text_refused_in : n.number ≢ 0 → text s ≡ refused_text n.number
-    text_refused_in h = rw number_in (text_refused s few some (omega arith) (λ e. h (number_in ∙ e)))
+    -- what the player writes is the answers of the rule, and the text made of them that of the input
+    pub fed_in : fed_from n.nodes n.gain n.leaves n.repeats n.root n.fresh (take (length s - (2 + k)) (drop (2 + k) s))
+        ≡ answer_bytes (answers (rule (rule_in s)) (take (length s - (2 + k)) (drop (2 + k) s)))
+    unfolding fed_bytes
+    fed_in = rw ready_in (rule_fed (rule_in s) (rule_bytes s small) accepts (take (length s - (2 + k)) (drop (2 + k) s)))
 
-    events_in_lem : take (length s - (2 + k)) (drop (2 + k) s) ≡ events_in s
-    events_in_lem = take_all (length s - (2 + k)) (drop (2 + k) s) (rw (length-drop (2 + k) s) (omega arith)) ∙ ap (λ (m : ℕ). drop (2 + m) s) is
-
-    module _ (small : (i : ℕ) → get_or s i 0 < 256) (accepted : n.number ≡ 0) where
-      accepts : rule_number (rule_in s) ≡ 0
-      accepts = sym number_in ∙ accepted
-
-      -- what the player writes is the answers of the rule, and the text made of them that of the input
-      pub fed_in : fed_from n.nodes n.gain n.leaves n.repeats n.root n.fresh (take (length s - (2 + k)) (drop (2 + k) s))
-          ≡ answer_bytes (answers (rule (rule_in s)) (take (length s - (2 + k)) (drop (2 + k) s)))
-      unfolding fed_bytes
-      fed_in = rw ready_in (rule_fed (rule_in s) (rule_bytes s small) accepts (take (length s - (2 + k)) (drop (2 + k) s)))
-
-      pub text_in : text s
-          ≡ rule_text_of n.root (take (length s - (2 + k)) (drop (2 + k) s)) (answers (rule (rule_in s)) (take (length s - (2 + k)) (drop (2 + k) s)))
-      text_in = text_rule s few some (omega arith) accepts ∙ rw (events_in_lem, ready_in) (sym (rule_text_lem (rule_in s) accepts (events_in s)))
+    pub text_in : text s
+        ≡ rule_text_of n.root (take (length s - (2 + k)) (drop (2 + k) s)) (answers (rule (rule_in s)) (take (length s - (2 + k)) (drop (2 + k) s)))
+    text_in = text_rule s few some (omega arith) accepts ∙ rw (events_in_lem, ready_in) (sym (rule_text_lem (rule_in s) accepts (events_in s)))

@@ -1,20 +1,19 @@
-// Words, numbers and lines of the printer's text, written into the output.
+// Words, numbers and lines of the printer's text, written into the output. `write!` to a `&mut [u8]` would promise nothing of the bytes.
 ghost use Rattle.std.specs.Prelude.{◌≡◌, ◌+◌, ◌*◌, ◌<◌, ◌≤◌, length};
 ghost use Rattle.std.proofs.lemmas.List.Edits.{sets};
+ghost use Rattle.records.specs.Refusals.{number_of};
 ghost use Rattle.printout.specs.Text.{hex_digit, decimal_length, decimal, status_word, line, refused_text};
 ghost use Rattle.printout.specs.Printed.{PrintedAs};
 
 use par::{Notices, Status};
+use records::Refusal;
 
 // A hexadecimal digit, lower-case.
 fn hex_digit(n: u8) -> u8
     requires { n < 16 }
     ensures { result ≡ hex_digit n }
 {
-    if n < 10 {
-        return 48 + n;
-    }
-    87 + n
+    b"0123456789abcdef"[usize::from(n)]
 }
 
 // Writes a word from a place on.
@@ -22,21 +21,14 @@ pub fn put_word(out: &mut [u8], at: usize, word: &[u8])
     requires { at + length word.now ≤ length out.old }
     ensures { out.new ≡ sets out.old at word.now }
 {
-    let mut i = 0;
-    while i < word.len() {
-        out[at + i] = word[i];
-        i += 1;
-    }
+    out[at..at + word.len()].copy_from_slice(word);
 }
 
 // How many decimal digits a number below 100 has.
 pub fn decimal_length(n: u8) -> usize
     ensures { result ≡ decimal_length n }
 {
-    if n < 10 {
-        return 1;
-    }
-    2
+    if n < 10 { 1 } else { 2 }
 }
 
 // Writes a number below 100 in decimal, and a line feed.
@@ -45,31 +37,20 @@ pub fn put_decimal(out: &mut [u8], at: usize, n: u8)
     ensures { out.new ≡ sets out.old at (decimal n) }
 {
     if n < 10 {
-        out[at] = 48 + n;
-        out[at + 1] = 10;
-        return;
+        put_word(out, at, &[b'0' + n, b'\n']);
+    } else {
+        put_word(out, at, &[b'0' + n / 10, b'0' + n % 10, b'\n']);
     }
-    out[at] = 48 + n / 10;
-    out[at + 1] = 48 + n % 10;
-    out[at + 2] = 10;
 }
 
-// The notice set of an answer record, from its two bytes.
-pub fn notices_of(low: u8, high: u8) -> Notices
-    ensures { result ≡ low + 256 * high }
-{
-    low as Notices + 256 * (high as Notices)
-}
-
-// Writes the word of a status in its place in a line.
-fn put_status(out: &mut [u8], status: Status)
-    requires { 16 ≤ length out.old }
-    ensures { out.new ≡ sets out.old 8 (status_word status) }
+// The word of a status.
+fn status_word(status: Status) -> &'static [u8; 7]
+    ensures { result.now ≡ status_word status }
 {
     match status {
-        Status::Waiting => put_word(out, 8, b"waiting"),
-        Status::Success => put_word(out, 8, b"success"),
-        Status::Failure => put_word(out, 8, b"failure"),
+        Status::Waiting => b"waiting",
+        Status::Success => b"success",
+        Status::Failure => b"failure",
     }
 }
 
@@ -78,23 +59,27 @@ pub fn put_line(out: &mut [u8], event: u8, notices: Notices, status: Status)
     requires { 16 ≤ length out.old }
     ensures { out.new ≡ sets out.old 0 (line event notices status) }
 {
-    out[0] = hex_digit(event / 16);
-    out[1] = hex_digit(event % 16);
-    out[2] = 32;
-    out[3] = hex_digit((notices / 4096) as u8);
-    out[4] = hex_digit((notices / 256 % 16) as u8);
-    out[5] = hex_digit((notices / 16 % 16) as u8);
-    out[6] = hex_digit((notices % 16) as u8);
-    out[7] = 32;
-    put_status(out, status);
-    out[15] = 10;
+    let [low, high] = notices.to_le_bytes();
+    let numbers = [
+        hex_digit(event / 16),
+        hex_digit(event % 16),
+        b' ',
+        hex_digit(high / 16),
+        hex_digit(high % 16),
+        hex_digit(low / 16),
+        hex_digit(low % 16),
+        b' ',
+    ];
+    put_word(out, 0, &numbers);
+    put_word(out, 8, status_word(status));
+    out[15] = b'\n';
 }
 
 // Prints a refusal, where it fits; how long it is.
-pub fn put_refusal(output: &mut [u8], number: u8) -> usize
-    requires { number < 100 }
-    ensures { PrintedAs (refused_text number) output.old result output.new }
+pub fn put_refusal(output: &mut [u8], refusal: Refusal) -> usize
+    ensures { PrintedAs (refused_text (number_of refusal)) output.old result output.new }
 {
+    let number = u8::from(refusal);
     let n = 9 + decimal_length(number);
     if output.len() < n {
         return n;

@@ -1,10 +1,12 @@
 -- `printout::print` meets its contract, by outcome: 17, 2, the number of the file, the text of the rule.
-use Prim.Native.Nat.{ℕ, ◌<◌}
+use Prim.Native.Nat.{ℕ, ◌+◌, ◌-◌, ◌<◌}
 use native.Mathlib.Omega.{arith}
-use lib.ListN.{get_or, length-take, length-drop}
+use lib.ListN.{length, get_or, take, drop, length-take, length-drop}
+use Rattle.par.specs.Feed.{answers}
+use Rattle.files.specs.Rule.{rule}
+use Rattle.printout.specs.Text.{rule_in}
 use Rattle.printout.proofs.Lines.{answers_many}
-use Rattle.printout.proofs.Texts.{text_large, text_short, text_cut, number_two_digits, nodes_wide, root_in, text_refused_in, fed_in}
-use Rattle.printout.proofs.Texts.{text_in}
+use Rattle.printout.proofs.Texts.{text_large, text_short, text_cut, text_refused_in, fed_in, text_in}
 use Rattle.printout.proofs.print.Goals as goal
 
 pub returns-then-input-gt8192 : goal.returns-then-input-gt8192
@@ -19,27 +21,24 @@ returns-then-input-size c =
     (arith, c.if-input-size.true, c.part_at-size.ensures)) in
     rw cut c.put_refusal-then-input-size.ensures
 
-pub put_refusal-requires-then-number-ne0 : goal.put_refusal-requires-then-number-ne0
-put_refusal-requires-then-number-ne0 c = number_two_digits c.args.input.now c.part_at-size.ensures
-    c.ready_of-ready.ensures
-
-pub returns-then-number-ne0 : goal.returns-then-number-ne0
-returns-then-number-ne0 c = let refused =
-    text_refused_in c.args.input.now c.part_at-size.ensures c.ready_of-ready.ensures c.if-input-gt8192.false c.if-input-lt2.false
-    c.if-input-size.false
-    c.if-number-ne0.true in
-    rw refused c.put_refusal-then-number-ne0.ensures
+pub returns-in-Err : goal.returns-in-Err
+returns-in-Err c =
+    rw (text_refused_in c.args.input.now c.part_at-size.ensures c.if-input-gt8192.false c.if-input-lt2.false c.if-input-size.false c.in-Err.refusal
+    c.in-Err.ensures.refused) c.put_refusal-in-Err.ensures
 
 pub put_rule-requires : goal.put_rule-requires
-put_rule-requires c = let wide = nodes_wide c.args.input.now c.part_at-size.ensures c.ready_of-ready.ensures in (
-  (root_in c.args.input.now c.part_at-size.ensures c.ready_of-ready.ensures c.if-number-ne0.false, wide.0, wide.1),
-  simp (length-take, length-drop) (omega (arith, c.if-input-gt8192.false)),
-)
+put_rule-requires c = simp (length-take, length-drop) (omega (arith, c.if-input-gt8192.false))
 
-pub returns : goal.returns
-returns c = let small : (i : ℕ) → get_or c.args.input.now i 0 < 256 = λ i. omega (arith, c.type_inv.input i) in
-    let is = text_in c.args.input.now c.part_at-size.ensures c.ready_of-ready.ensures c.if-input-gt8192.false c.if-input-lt2.false
-    c.if-input-size.false small c.if-number-ne0.false in
-    let fed = fed_in c.args.input.now c.part_at-size.ensures c.ready_of-ready.ensures c.if-input-gt8192.false c.if-input-lt2.false
-    c.if-input-size.false small c.if-number-ne0.false in
-    rw is (c.put_rule.ensures _ (answers_many _ _) fed)
+pub returns-in-Ok : goal.returns-in-Ok
+returns-in-Ok c = let small : (i : ℕ) → get_or c.args.input.now i 0 < 256 = λ i. omega (arith, c.type_inv.input i) in
+    let is = text_in c.args.input.now c.part_at-size.ensures c.if-input-gt8192.false c.if-input-lt2.false c.if-input-size.false small c.in-Ok.ensures.ready
+    c.in-Ok.ensures.refused in
+    let fed = fed_in c.args.input.now c.part_at-size.ensures c.if-input-gt8192.false c.if-input-lt2.false c.if-input-size.false small c.in-Ok.ensures.ready
+    c.in-Ok.ensures.refused in
+    let n = length c.args.input.now - (2 + c.part_at-size.result) in
+    let events = take n (drop (2 + c.part_at-size.result) c.args.input.now) in
+    let rs = answers (rule (rule_in c.args.input.now)) events in
+    rw is
+    (rw c.rule.ensures.root at
+    (c.put_rule.ensures rs (answers_many (rule (rule_in c.args.input.now)) events)
+    (rw (c.rule.ensures.nodes, c.rule.ensures.gain, c.rule.ensures.leaves, c.rule.ensures.repeats, c.rule.ensures.root) fed)))
