@@ -2,88 +2,53 @@
 // A stored file is four bytes of length, little-endian, and then its bytes.
 #![tactic(auto)]
 
-ghost use Rattle.std.specs.Prelude.{◌+◌, ◌≤◌, ◌<◌, min, length, IfOk};
+ghost use Rattle.std.specs.Prelude.{◌-◌, ◌≤◌, length};
 
+use files::Rule;
 use std::io;
 use std::io::{BufWriter, Read, Write};
 
 // The most of standard input that is read.
 const INPUT_LIMIT: u64 = 524288;
 
-// Where a stored file begins and ends in the input.
-#[derive(Clone, Copy)]
-struct Extent {
-    start: usize,
-    end: usize,
-}
-
-// The file stored at a place; cut short where the input ends.
-fn extent_at(input: &[u8], at: usize) -> Extent
-    requires { at ≤ length input.now }
-    ensures { (min (at + 1) (length input.now) ≤ result.start) × (result.start ≤ result.end) × (result.end ≤ length input.now) }
+// The file stored at the input's front, and what comes behind it; cut short where the input ends. The program `worked` reads its strings so too, and
+// its `main` is as this one; a crate for both would be longer than the two.
+fn first_file(input: &[u8]) -> (&[u8], &[u8])
+    ensures { length result.1.now ≤ length input.now - 1 }
 {
-    let n = input.len();
-    if n - at < 4 {
-        return Extent { start: n, end: n };
-    }
-    let start = at + 4;
-    let low = records::word_at(input, at, 0) as usize;
-    let high = records::word_at(input, at, 2) as usize;
-    let size = low + 65536 * high;
-    if n - start < size {
-        return Extent { start, end: n };
-    }
-    Extent {
-        start,
-        end: start + size,
-    }
+    let Some((size, rest)) = input.split_first_chunk::<4>() else {
+        return (&[], &[]);
+    };
+    let size = u32::from_le_bytes(*size) as usize; // no `From` leads from 32 bits to an index
+    rest.split_at(size.min(rest.len()))
 }
 
-fn print_number(out: &mut impl Write, n: u64) -> io::Result<()> {
-    write!(out, " {n}")
-}
-
-fn print_reading(out: &mut impl Write, number: u8, place: usize, count: usize) -> io::Result<()> {
-    print_number(out, number as u64)?;
-    print_number(out, place as u64)?;
-    print_number(out, count as u64)
-}
-
-// Prints one case's readings.
+// Prints one case's readings: number, place, count, and of a rule its size, 0 where it is refused.
 fn print_case(out: &mut impl Write, expressions: &[u8], pairs: &[u8]) -> io::Result<()> {
-    let rule = files::rule_of(expressions);
-    write!(out, "rule")?;
-    print_reading(out, rule.number, rule.place, rule.count)?;
-    print_number(out, rule.size as u64)?;
-    writeln!(out)?;
-    if rule.number == 0 {
-        let reading = files::pairs_of(pairs, rule.count);
-        write!(out, "pairs")?;
-        print_reading(out, reading.number, reading.place, reading.count)?;
-        writeln!(out)?;
+    let Rule { size, count, place } = files::rule_of(expressions);
+    match size {
+        Ok(size) => {
+            writeln!(out, "rule 0 {place} {count} {size}")?;
+            let reading = files::pairs_of(pairs, count);
+            writeln!(
+                out,
+                "pairs {} {} {}",
+                records::number(reading.outcome),
+                reading.place,
+                reading.count
+            )
+        }
+        Err(refusal) => writeln!(out, "rule {} {place} {count} 0", u8::from(refusal)),
     }
-    Ok(())
-}
-
-// The case stored at a place; where the next begins.
-fn case_at(out: &mut impl Write, input: &[u8], at: usize) -> io::Result<usize>
-    requires { at < length input.now }
-    ensures { IfOk result (λ next. (at < next) × (next ≤ length input.now)) }
-{
-    let a = extent_at(input, at);
-    let start = a.start;
-    let end = a.end;
-    let b = extent_at(input, end);
-    let from = b.start;
-    let to = b.end;
-    print_case(out, &input[start..end], &input[from..to])?;
-    Ok(to)
 }
 
 fn print_all(out: &mut impl Write, input: &[u8]) -> io::Result<()> {
-    let mut at = 0;
-    while at < input.len() {
-        at = case_at(out, input, at)?;
+    let mut rest = input; // an iterator over two files at a time would be longer than the loop
+    while !rest.is_empty() {
+        let (expressions, behind) = first_file(rest);
+        let (pairs, behind) = first_file(behind);
+        print_case(out, expressions, pairs)?;
+        rest = behind;
     }
     Ok(())
 }

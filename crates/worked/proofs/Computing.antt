@@ -35,10 +35,10 @@ use Rattle.worked.specs.Holds.{Every, Every.none, Every.◌&◌, Writes, Holds}
 module _ (s feed : List ℕ) (opens : rule_number s ≡ 0) where
   writes : (bytes : List ℕ) → answer_bytes (answers (rule s) feed) ≡ bytes → Writes s feed bytes
   unfolding ran_number
-  writes bytes right place buffer room r buffer' fed =
-      let runs : r.number ≡ 0 = fed.number ∙ rw (opens, le-leb _ _ room) in
+  writes bytes right place buffer room number written buffer' fed =
+      let runs : number ≡ 0 = fed.number_is ∙ rw (opens, le-leb _ _ room) in
       let ran = run_writes s feed place buffer fed runs in
-      (ap₂ (λ n k. record { number = n; written = k }) runs ran.0, ran.1 ∙ rw right)
+      (runs, ran.0, ran.1 ∙ rw right)
 
   steps_through : Bytes s → (back : List Back) → replies (answers (rule s) feed) ≡ back
       → (d : Desk) → desks_back d (opening s ∷ map stepping feed) ≡ numbered 0 ∷ back

@@ -7,15 +7,14 @@ use Rattle.par.specs.declared.Status.TheVariants.{Waiting, Success, Failure}
 use Rattle.par.specs.Status.{status_byte}
 use Rattle.files.specs.Swap.{swap_bytes}
 use Rattle.engine.specs.Feed.{answer_record}
-use Rattle.alike.specs.declared.Judged.{Judged}
-use Rattle.alike.specs.Proposal.{verdict}
+use Rattle.alike.specs.Proposal.{Verdict, verdict}
 
 -- ---- a row
 
 -- a pair file, the verdict on it, and the part that is shown
 pub record Judgement : Type 0 where
   pub pairs : List ℕ
-  pub verdict_is : Judged
+  pub verdict_is : Verdict
   pub shown : List ℕ
 
 pub data Row : Type 0 where

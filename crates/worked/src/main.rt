@@ -1,101 +1,139 @@
-// Answers stored cases. A case is a byte of kind and what belongs to it: 1 a rule, its events, the room of a buffer and a place in it, for a
-// run; 2 calls on a desk that begins empty; 3 an expression file and a pair file, a proposal.
+// Answers stored cases. A case is a byte of kind and what belongs to it: 1, or any other byte, a rule, its events, the room of a buffer and a place
+// in it, for a run; 2 calls on a desk that begins empty; 3 an expression file and a pair file, a proposal.
 // A number is four bytes, little-endian; a string is its length and then its bytes.
 #![tactic(auto)]
 
-ghost use Rattle.std.specs.Prelude.{◌+◌, ◌≤◌, ◌<◌, min, length, IfOk};
+ghost use Rattle.std.specs.Prelude.{◌-◌, ◌≤◌, ◌<◌, length, IfSome};
+ghost use Rattle.std.specs.Iterator.{at_most};
 
-use std::io;
+use par::{Answer, Status};
+use records::{Contents, Refusal};
 use std::io::{BufWriter, Read, Write};
+use std::{fmt, io};
 
 // The most of standard input that is read.
 const INPUT_LIMIT: u64 = 524288;
 
-// Where a stored string begins and ends.
-#[derive(Clone, Copy)]
-struct Extent {
-    start: usize,
-    end: usize,
-}
-
-// The number stored at a place; the bytes that it lacks count as 0.
-fn number_at(input: &[u8], at: usize) -> usize
-    ensures { result < 4294967296 }
+// The number stored at the input's front, and what comes behind it; none where the input is shorter.
+fn first_number(input: &[u8]) -> Option<(usize, &[u8])>
+    ensures { IfSome result (λ read. length read.1.now < length input.now) }
 {
-    let low = records::word_at(input, at, 0) as usize;
-    let high = records::word_at(input, at, 2) as usize;
-    low + 65536 * high
+    let (number, rest) = input.split_first_chunk::<4>()?;
+    let number = u32::from_le_bytes(*number) as usize; // no `From` leads from 32 bits to an index
+    Some((number, rest))
 }
 
-// The string stored at a place; cut short where the input ends.
-fn string_at(input: &[u8], at: usize) -> Extent
-    requires { at ≤ length input.now }
-    ensures { (min (at + 1) (length input.now) ≤ result.start) × (result.start ≤ result.end) × (result.end ≤ length input.now) }
+// The string stored at the input's front, and what comes behind it; cut short where the input ends.
+fn first_string(input: &[u8]) -> (&[u8], &[u8])
+    ensures { length result.1.now ≤ length input.now - 1 }
 {
-    let n = input.len();
-    if n - at < 4 {
-        return Extent { start: n, end: n };
-    }
-    let start = at + 4;
-    let size = number_at(input, at);
-    if n - start < size {
-        return Extent { start, end: n };
-    }
-    Extent {
-        start,
-        end: start + size,
+    match first_number(input) {
+        Some((size, rest)) => rest.split_at(size.min(rest.len())),
+        None => (&[], &[]),
     }
 }
 
-fn print_number(out: &mut impl Write, n: u64) -> io::Result<()> {
-    write!(out, " {n}")
+enum Case<'a> {
+    Run {
+        rule: &'a [u8],
+        events: &'a [u8],
+        room: usize,
+        place: usize,
+    },
+    Desk {
+        calls: &'a [u8],
+    },
+    Proposal {
+        expressions: &'a [u8],
+        pairs: &'a [u8],
+    },
 }
 
-fn print_byte(out: &mut impl Write, b: u8) -> io::Result<()> {
-    write!(out, "{b:02x}")
-}
+// The cases stored in a file; a run that is cut short is none.
+#[derive(Drop)]
+struct Cases<'a>(&'a [u8]);
 
-fn print_bytes(out: &mut impl Write, s: &[u8]) -> io::Result<()> {
-    write!(out, " ")?;
-    for b in s {
-        print_byte(out, *b)?;
+impl<'a> Iterator for Cases<'a> {
+    type Item = Case<'a>;
+
+    ghost remaining = { λ s. at_most (length s.0.now) };
+
+    fn next(&mut self) -> Option<Case<'a>> {
+        let (kind, rest) = self.0.split_first()?;
+        let (case, rest) = match *kind {
+            2 => {
+                let (calls, rest) = first_string(rest);
+                (Case::Desk { calls }, rest)
+            }
+            3 => {
+                let (expressions, rest) = first_string(rest);
+                let (pairs, rest) = first_string(rest);
+                (Case::Proposal { expressions, pairs }, rest)
+            }
+            _ => {
+                let (rule, rest) = first_string(rest);
+                let (events, rest) = first_string(rest);
+                let (room, rest) = first_number(rest)?;
+                let (place, rest) = first_number(rest)?;
+                let run = Case::Run {
+                    rule,
+                    events,
+                    room,
+                    place,
+                };
+                (run, rest)
+            }
+        };
+        self.0 = rest;
+        Some(case)
     }
-    Ok(())
 }
 
-// Runs a feed into a buffer, and prints the whole buffer.
-fn run_into(
-    out: &mut impl Write,
-    rule: &[u8],
-    events: &[u8],
-    buffer: &mut [u8],
-    place: usize,
-) -> io::Result<()> {
-    let ran = engine::run(rule, events, buffer, place);
-    write!(out, "run")?;
-    print_number(out, ran.number as u64)?;
-    print_number(out, ran.written as u64)?;
-    print_bytes(out, buffer)?;
-    writeln!(out)
+enum Call<'a> {
+    Open(&'a [u8]),
+    Step(u8),
 }
 
-// The same at the front of a buffer, as far as the room goes.
-fn run_within(
-    out: &mut impl Write,
-    rule: &[u8],
-    events: &[u8],
-    buffer: &mut [u8],
-    room: usize,
-    place: usize,
-) -> io::Result<()> {
-    if room <= buffer.len() {
-        run_into(out, rule, events, &mut buffer[..room], place)?;
+// The calls stored in a desk's case: 0 and a rule file opens it, any other byte and an event moves it on. An event that is cut off is 0.
+#[derive(Drop)]
+struct Calls<'a>(&'a [u8]);
+
+impl<'a> Iterator for Calls<'a> {
+    type Item = Call<'a>;
+
+    ghost remaining = { λ s. at_most (length s.0.now) };
+
+    fn next(&mut self) -> Option<Call<'a>> {
+        let (call, rest) = match self.0 {
+            [] => return None,
+            [0, rest @ ..] => {
+                let (rule, rest) = first_string(rest);
+                (Call::Open(rule), rest)
+            }
+            [_, event, rest @ ..] => (Call::Step(*event), rest),
+            [_, rest @ ..] => (Call::Step(0), rest),
+        };
+        self.0 = rest;
+        Some(call)
     }
-    Ok(())
 }
 
-// Every byte of the buffer is the same before the run, so that what it changes is seen.
-fn run_case(
+// Bytes in hexadecimal.
+#[derive(Drop)]
+struct Hex<'a>(&'a [u8]);
+
+impl fmt::Display for Hex<'_> {
+    fn fmt<W: fmt::Write>(&self, f: &mut fmt::Formatter<W>) -> fmt::Result {
+        for byte in self.0 {
+            write!(f, "{byte:02x}")?;
+        }
+        Ok(())
+    }
+}
+
+// Runs a feed into the front of a buffer, as far as the room goes, and prints all of that. Every byte there is the same before the run, so that what
+// it changes is seen.
+fn print_run(
     out: &mut impl Write,
     rule: &[u8],
     events: &[u8],
@@ -103,93 +141,76 @@ fn run_case(
     place: usize,
 ) -> io::Result<()> {
     let mut buffer = [165u8; 4096];
-    run_within(out, rule, events, &mut buffer, room, place)
+    if buffer.len() < room {
+        return Ok(());
+    }
+    let part = &mut buffer[..room];
+    match engine::run(rule, events, part, place) {
+        Ok(written) => writeln!(out, "run 0 {written} {}", Hex(part)),
+        Err(refusal) => writeln!(out, "run {} 0 {}", u8::from(refusal), Hex(part)),
+    }
 }
 
-fn print_reply(out: &mut impl Write, reply: engine::Reply) -> io::Result<()> {
-    let answer = reply.answer;
-    let status = answer.status;
-    write!(out, "step")?;
-    print_number(out, reply.number as u64)?;
-    print_number(out, answer.notices as u64)?;
-    print_number(out, par::status_byte(status) as u64)?;
-    print_number(out, answer.lines)?;
-    writeln!(out)
+// Prints a step's number, notices, status byte and lines; where it is refused, none, waiting and 0.
+fn print_reply(out: &mut impl Write, reply: Result<Answer, Refusal>) -> io::Result<()> {
+    match reply {
+        Ok(answer) => writeln!(
+            out,
+            "step 0 {} {} {}",
+            answer.notices,
+            u8::from(answer.status),
+            answer.lines
+        ),
+        Err(refusal) => writeln!(
+            out,
+            "step {} 0 {} 0",
+            u8::from(refusal),
+            u8::from(Status::Waiting)
+        ),
+    }
 }
 
-// Calls on a desk: 0 and a rule file opens it, 1 and an event moves it on.
-fn desk_case(out: &mut impl Write, calls: &[u8]) -> io::Result<()> {
-    let mut d = engine::empty();
-    let mut at = 0;
-    while at < calls.len() {
-        if calls[at] == 0 {
-            let file = string_at(calls, at + 1);
-            let start = file.start;
-            let end = file.end;
-            let begun = engine::opened(d, &calls[start..end]);
-            d = begun.desk;
-            write!(out, "open")?;
-            print_number(out, begun.number as u64)?;
-            writeln!(out)?;
-            at = end;
-        } else {
-            let moved = engine::stepped(d, records::byte_at(calls, at, 1));
-            d = moved.desk;
-            print_reply(out, moved.reply)?;
-            at += 2;
+fn print_desk(out: &mut impl Write, calls: &[u8]) -> io::Result<()> {
+    let mut desk = engine::empty();
+    for call in Calls(calls) {
+        match call {
+            Call::Open(rule) => {
+                let number = records::number(engine::open(&mut desk, rule));
+                writeln!(out, "open {number}")?;
+            }
+            Call::Step(event) => print_reply(out, engine::step(&mut desk, event))?,
         }
     }
     Ok(())
 }
 
 // The verdict, and where the shown part begins: 0 in the expressions, 1 in the pairs, and the place there.
-fn judge_case(out: &mut impl Write, expressions: &[u8], pairs: &[u8]) -> io::Result<()> {
+fn print_verdict(out: &mut impl Write, expressions: &[u8], pairs: &[u8]) -> io::Result<()> {
     let verdict = alike::verdict_of(expressions, pairs);
-    write!(out, "judge")?;
-    print_number(out, verdict.number as u64)?;
-    if verdict.in_pairs {
-        print_number(out, 1)?;
-    } else {
-        print_number(out, 0)?;
-    }
-    print_number(out, verdict.place as u64)?;
-    writeln!(out)
+    let file = match verdict.shown_in {
+        Contents::Expressions => 0,
+        Contents::Pairs => 1,
+    };
+    writeln!(
+        out,
+        "judge {} {file} {}",
+        records::number(verdict.outcome),
+        verdict.place
+    )
 }
 
-// The case stored at a place; where the next begins.
-fn case_at(out: &mut impl Write, input: &[u8], at: usize) -> io::Result<usize>
-    requires { at < length input.now }
-    ensures { IfOk result (λ next. (at < next) × (next ≤ length input.now)) }
-{
-    let kind = input[at];
-    let first = string_at(input, at + 1);
-    let start = first.start;
-    let end = first.end;
-    if kind == 2 {
-        desk_case(out, &input[start..end])?;
-        return Ok(end);
-    }
-    let second = string_at(input, end);
-    let from = second.start;
-    let to = second.end;
-    if kind == 3 {
-        judge_case(out, &input[start..end], &input[from..to])?;
-        return Ok(to);
-    }
-    let n = input.len();
-    if n - to < 8 {
-        return Ok(n);
-    }
-    let room = number_at(input, to);
-    let place = number_at(input, to + 4);
-    run_case(out, &input[start..end], &input[from..to], room, place)?;
-    Ok(to + 8)
-}
-
-fn answer_all(out: &mut impl Write, input: &[u8]) -> io::Result<()> {
-    let mut at = 0;
-    while at < input.len() {
-        at = case_at(out, input, at)?;
+fn print_all(out: &mut impl Write, input: &[u8]) -> io::Result<()> {
+    for case in Cases(input) {
+        match case {
+            Case::Run {
+                rule,
+                events,
+                room,
+                place,
+            } => print_run(out, rule, events, room, place)?,
+            Case::Desk { calls } => print_desk(out, calls)?,
+            Case::Proposal { expressions, pairs } => print_verdict(out, expressions, pairs)?,
+        }
     }
     Ok(())
 }
@@ -199,6 +220,6 @@ fn main(rt: HostRuntime) -> io::Result<()> {
     let mut input = Vec::new(alloc);
     rt.stdin().take(INPUT_LIMIT).read_to_end(&mut input)?;
     let mut out = BufWriter::new(alloc, io::writer(&rt))?;
-    answer_all(&mut out, &input)?;
+    print_all(&mut out, &input)?;
     out.flush()
 }

@@ -1,6 +1,6 @@
--- `readings::print_all` ends: each case begins after the one before it.
-use Rattle.std.proofs.Common.{length, ◌-◌}
+-- `readings::print_all` ends: less of the input is left after each case.
+use Rattle.std.proofs.Common.{length}
 use Rattle.readings.proofs.print_all.Given as goal
 
-abbrev pub decreases-loop-at : goal.decreases-loop-at
-decreases-loop-at g l = length l.input - l.at
+abbrev pub decreases-loop-rest : goal.decreases-loop-rest
+decreases-loop-rest g l = length l.rest
