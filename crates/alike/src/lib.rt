@@ -29,7 +29,7 @@ pub struct Judged {
 }
 
 // The first closing condition that fails, both files read without fault and the places of their records in hand. The tables are arrays: the engine takes
-// no memory from the heap.
+// no memory from the heap. Files and places go apart, as `files::node_of` says.
 fn settle(
     expressions: &[u8],
     at: &[usize],

@@ -13,7 +13,7 @@ use par::{Notices, Status};
 use play::{Rule, masks};
 use records::Refusal;
 
-// Enters node r, which is the number n, at its event, if it is an event node.
+// Enters node r, which is the number n, at its event, if it is an event node. The two numbers are plain, as in `play::masks`.
 #[tactic(auto, unfolding(crate::specs::Mirror::Feed::entered, play::specs::Mirror::Masks::with))]
 fn enter(table: &mut [u64; 256], n: u16, leaves: u64, r: usize)
     requires { r < 64 }

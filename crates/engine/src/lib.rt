@@ -109,7 +109,7 @@ pub fn narrow(sent: u64) -> Notices
     (sent % 65536) as Notices // cut to its width: no `From` narrows
 }
 
-// What a step is answered with.
+// What a step is answered with. No `From` can be written here: both structs are other crates'.
 fn answer_of(moved: play::Moved) -> Answer
     ensures { result ≡ answer_of moved }
 {

@@ -27,7 +27,7 @@ pub fn size_of(sizes: &[u8], node: Node) -> u8
     }
 }
 
-// The sizes of the records at the places `at`.
+// The sizes of the records at the places `at`. File and places go apart, as `node_of` says.
 pub fn fill_sizes(file: &[u8], at: &[usize], sizes: &mut [u8])
     requires { (length at.now ≤ length sizes.old) × Earlier (node_in file.now at.now) (length at.now) }
     ensures { Sized (node_in file.now at.now) (length at.now) sizes.old sizes.new }

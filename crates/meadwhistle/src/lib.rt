@@ -88,6 +88,7 @@ impl From<Judged> for Part {
     fn from(judged: Judged) -> Part
         ensures { result ≡ part_of (told judged) }
     {
+        // the numbers of the header; they stand for the files here and in the program `worked` alone
         let file = match judged.shown_in {
             Contents::Expressions => 0,
             Contents::Pairs => 1,

@@ -1,5 +1,5 @@
 // A set of nodes is a word; node r is in it where bit r is set. A node's number stays a plain number with its bound as a clause: it is an index into
-// arrays of 64, and a type of its own would be unwrapped at each of them.
+// arrays of 64 and a bit's place in a word, and a type of its own would be unwrapped at each of them.
 ghost use Rattle.std.specs.Prelude.{◌≡◌, ◌<◌};
 ghost use Rattle.play.specs.Mirror.Masks.{bit, one as single, less, below as under};
 

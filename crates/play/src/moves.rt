@@ -28,7 +28,7 @@ pub fn down(arrival: &Arrival, words: &mut Words, span: Span) -> Status
         words.active = masks::without(words.active, masks::one(r));
         return Status::Success;
     }
-    let n = arrival.nodes[r];
+    let n = arrival.nodes[r]; // as the desk of the C interface holds it
     let kind = Kind::from(n % 256);
     let x = usize::from(n / 256);
     match ways::route_of(kind, words.active, arrival.met, span, x) {

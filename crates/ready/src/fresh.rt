@@ -33,7 +33,7 @@ fn last(fresh: &[u64; 64], r: usize) -> u64
     if r == 0 { 0 } else { earlier(fresh, r - 1, r) }
 }
 
-// What the first part of node r has, which is the number n.
+// What the first part of node r has, which is the number n, as the desk of the C interface holds it: its kind, and 256 times that part.
 fn first(fresh: &[u64; 64], n: u16, r: usize) -> u64
     requires { r < 64 }
     ensures { result ≡ earlier_of fresh.now (n / 256) r }
@@ -87,7 +87,7 @@ pub fn prepare(nodes: &[u16; 64], gain: &mut [u64; 64], root: usize) -> Start
     let mut fresh = [0u64; 64];
     let mut leaves = 0u64;
     let mut repeats = 0u64;
-    // by number: a node is made ready from those before it, and both tables are written at it
+    // by number: a node is made ready from those before it, and both tables are written at it; over `nodes[..=root]` the proof did not close
     for r in 0..root + 1 {
         let n = nodes[r];
         let kind = Kind::from(n % 256);

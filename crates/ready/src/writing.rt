@@ -44,7 +44,7 @@ impl Written {
     }
 }
 
-// The kind of a construct.
+// The kind of a construct. A `From` could stand in `play` alone, which knows nothing of what is written out and has no use for it.
 fn kind_of(node: Node) -> Kind
     ensures { kind_number result ≡ kind_of node }
 {
@@ -60,7 +60,8 @@ fn kind_of(node: Node) -> Kind
     }
 }
 
-// Writes the expression of record r out behind the nodes that are written. The last is then its root.
+// Writes the expression of record r out behind the nodes that are written. The last is then its root. File and places go apart, as
+// `files::node_of` says.
 pub fn write_out(file: &[u8], at: &[usize], r: usize, written: &mut Written)
     requires { Room (node_in file.now at.now) (length at.now) r written.old }
     ensures { Writes (node_in file.now at.now) r written.old written.new }

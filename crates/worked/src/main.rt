@@ -187,6 +187,7 @@ fn print_desk(out: &mut impl Write, calls: &[u8]) -> io::Result<()> {
 // The verdict, and where the shown part begins: 0 in the expressions, 1 in the pairs, and the place there.
 fn print_verdict(out: &mut impl Write, expressions: &[u8], pairs: &[u8]) -> io::Result<()> {
     let verdict = alike::verdict_of(expressions, pairs);
+    // as the C interface has it, which this program does not use
     let file = match verdict.shown_in {
         Contents::Expressions => 0,
         Contents::Pairs => 1,
