@@ -61,14 +61,22 @@ pub record Within (n : ℕ) (ps : List Pair) : Type 0 where
 -- ---- what `decode`, `split` and `sort` leave
 
 -- the records at the places `at` of the file s
+abbrev pub Decodes : List ℕ → List ℕ → List Node → Type 0
+Decodes s at ns = (r : ℕ) → r < length at → record_of ns r ≡ node_in s at r
+
+-- and no others
 pub record Decoded (s at : List ℕ) (ns : List Node) : Type 0 where
   pub long : length ns ≡ length at
-  pub rows : (r : ℕ) → r < length at → record_of ns r ≡ node_in s at r
+  pub rows : Decodes s at ns
 
 -- the pairs
+abbrev pub Splits : List ℕ → List ℕ → List Pair → Type 0
+Splits s at ps = (i : ℕ) → i < length at → pair_of ps i ≡ pair (word_at s (get_or at i 0) 4) (word_at s (get_or at i 0) 6)
+
+-- and no others
 pub record Split (s at : List ℕ) (ps : List Pair) : Type 0 where
   pub long : length ps ≡ length at
-  pub rows : (i : ℕ) → i < length at → pair_of ps i ≡ pair (word_at s (get_or at i 0) 4) (word_at s (get_or at i 0) 6)
+  pub rows : Splits s at ps
 
 -- an index of the pairs with m entries
 pub record SortedInto (ps : List Pair) (ix : List ℕ) (m : ℕ) : Type 0 where

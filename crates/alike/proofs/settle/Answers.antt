@@ -1,7 +1,7 @@
 -- `alike::settle` meets its contract: the records and the pairs are those of the two files.
 use Rattle.std.proofs.Common.{rules, sym, ap, ◌∙◌}
 use Rattle.alike.specs.Outcome.{outcome_of}
-use Rattle.alike.proofs.Readying.{count_few, listed_few, held_ready, indexed_ready, pairs_ready, within_ready, closing_ready}
+use Rattle.alike.proofs.Readying.{count_few, listed_few, held_ready, indexed_ready, pairs_ready, within_ready, closing_ready, decoded_whole, split_whole}
 use Rattle.alike.proofs.settle.Goals as goal
 
 pub slice_bounds-nodes-end : goal.slice_bounds-nodes-end
@@ -23,15 +23,24 @@ pub split-requires : goal.split-requires
 split-requires c = let few = listed_few c.requires in search rules
 
 pub invariant_of-records : goal.invariant_of-records
-invariant_of-records c = record { held = held_ready c.requires c.decode.ensures; sorted = indexed_ready c.requires c.decode.ensures }
+invariant_of-records c =
+    let few = count_few c.requires in
+    let d = decoded_whole c.decode.ensures (search rules) in
+    record { held = held_ready c.requires d; sorted = indexed_ready c.requires d }
 
 pub invariant_of-pairs : goal.invariant_of-pairs
 invariant_of-pairs c = record { sorted = pairs_ready c.sort-entries.ensures }
 
 pub first_fault-requires : goal.first_fault-requires
-first_fault-requires c = within_ready c.requires c.split.ensures c.decode.ensures
+first_fault-requires c =
+    let few = count_few c.requires in
+    let listed = listed_few c.requires in
+    within_ready c.requires (split_whole c.split.ensures (search rules)) (decoded_whole c.decode.ensures (search rules))
 
 pub returns : goal.returns
 returns c =
-    ap (outcome_of c.first_fault.result) (sym c.split.ensures.long) ∙ c.first_fault.ensures
-    ∙ closing_ready c.requires c.split.ensures c.decode.ensures
+    let few = count_few c.requires in
+    let listed = listed_few c.requires in
+    let s = split_whole c.split.ensures (search rules) in
+    ap (outcome_of c.first_fault.result) (sym s.long) ∙ c.first_fault.ensures
+    ∙ closing_ready c.requires s (decoded_whole c.decode.ensures (search rules))
