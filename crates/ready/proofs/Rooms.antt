@@ -10,7 +10,8 @@ use Rattle.par.specs.Expr.{size}
 use Rattle.par.specs.Records.{grow, Parts, expr}
 use Rattle.par.proofs.Records.{expr_step}
 use Rattle.ready.specs.declared.writing.Written.{Written}
-use Rattle.ready.specs.Mirror.WrittenOut.{put, last, kind_of, assembled, written_out, Writes, Room}
+use Rattle.par.specs.Nodes.{kind_field}
+use Rattle.ready.specs.Mirror.WrittenOut.{put, last, assembled, written_out, Writes, Room}
 use Rattle.ready.proofs.Written.{Out, size_some, room_out}
 
 -- a part that is written out behind w: an earlier record, room to write it out, and room for one node more
@@ -22,12 +23,12 @@ pub record Part (node : ℕ → Node) (n r : ℕ) (w : Written) (x : ℕ) : Type
 -- the construct m with one part, and one with two
 pub record One (node : ℕ → Node) (n r : ℕ) (w : Written) (m : Node) (x A : ℕ) : Type 0 where
   pub part : Part node n r w x
-  pub done : {u v : Written} → Writes node x w u → v ≡ put u (kind_of m) (last u) A → Writes node r w v
+  pub done : {u v : Written} → Writes node x w u → v ≡ put u (kind_field m) (last u) A → Writes node r w v
 
 pub record Two (node : ℕ → Node) (n r : ℕ) (w : Written) (m : Node) (x y : ℕ) : Type 0 where
   pub first : Part node n r w x
   pub second : {u : Written} → Writes node x w u → Part node n r u y
-  pub done : {u v z : Written} → Writes node x w u → Writes node y u v → z ≡ put v (kind_of m) (last u) 0 → Writes node r w z
+  pub done : {u v z : Written} → Writes node x w u → Writes node y u v → z ≡ put v (kind_field m) (last u) 0 → Writes node r w z
 
 module _ {node : ℕ → Node} {n r : ℕ} {w : Written} (room : Room node n r w) where
   pub room_put : w.count < 64
@@ -63,7 +64,7 @@ module _ {node : ℕ → Node} {n r : ℕ} {w : Written} (room : Room node n r w
     written g (suc f) h = rw (← is) (g f (omega arith))
 
     one_with : {x A : ℕ} → x < r → size (expr node r) ≡ 1 + size (expr node x)
-        → ((go : ℕ → Written → Written) → assembled go m w ≡ put (go x w) (kind_of m) (last (go x w)) A) → One node n r w m x A
+        → ((go : ℕ → Written → Written) → assembled go m w ≡ put (go x w) (kind_field m) (last (go x w)) A) → One node n r w m x A
     one_with h s e =
         let l = room.room in
         record {
@@ -72,7 +73,7 @@ module _ {node : ℕ → Node} {n r : ℕ} {w : Written} (room : Room node n r w
         }
 
     two_with : {x y : ℕ} → (x < r) × (y < r) → size (expr node r) ≡ 1 + size (expr node x) + size (expr node y)
-        → ((go : ℕ → Written → Written) → assembled go m w ≡ put (go y (go x w)) (kind_of m) (last (go x w)) 0) → Two node n r w m x y
+        → ((go : ℕ → Written → Written) → assembled go m w ≡ put (go y (go x w)) (kind_field m) (last (go x w)) 0) → Two node n r w m x y
     two_with {x} {y} h s e =
         let l = room.room in
         let a : Part node n r w x = part_of h.0 (omega arith) room.nodes_long room.sets_long in
@@ -113,10 +114,10 @@ module _ {node : ℕ → Node} {n r : ℕ} {w : Written} (room : Room node n r w
   try_parts e = two_with e (named e) (sized e) (λ go. refl)
 
   module _ {m : Node} (is : m ≡ node r) where
-    pub silent : m ≡ Silent → {v : Written} → v ≡ put w (kind_of m) 0 0 → Writes node r w v
+    pub silent : m ≡ Silent → {v : Written} → v ≡ put w (kind_field m) 0 0 → Writes node r w v
     silent e h = written is (λ f l. h ∙ rw e refl)
 
-    pub event : {b : ℕ} → m ≡ Event b → {v : Written} → v ≡ put w (kind_of m) b 0 → Writes node r w v
+    pub event : {b : ℕ} → m ≡ Event b → {v : Written} → v ≡ put w (kind_field m) b 0 → Writes node r w v
     event e h = written is (λ f l. h ∙ rw e refl)
 
     pub one : {x : ℕ} → (m ≡ Not x) ⊎ (m ≡ Repeat x) → One node n r w m x 0

@@ -1,8 +1,9 @@
 // A rule's expression becomes nodes: shared parts written out, parts before their whole, each node right behind its last part.
 ghost use Rattle.std.specs.Prelude.{◌≡◌, ◌-◌, ◌≤◌, ◌<◌, length};
+ghost use Rattle.par.specs.Nodes.{kind_field};
 ghost use Rattle.files.specs.Rule.{node_in};
 ghost use Rattle.play.specs.Mirror.Nodes.{kind_number, packed};
-ghost use Rattle.ready.specs.Mirror.WrittenOut.{put, kind_of, Room, Writes};
+ghost use Rattle.ready.specs.Mirror.WrittenOut.{put, Room, Writes};
 
 use par::Node;
 use play::kinds::Kind;
@@ -46,7 +47,7 @@ impl Written {
 
 // The kind of a construct. A `From` could stand in `play` alone, which knows nothing of what is written out and has no use for it.
 fn kind_of(node: Node) -> Kind
-    ensures { kind_number result ≡ kind_of node }
+    ensures { kind_number result ≡ kind_field node }
 {
     match node {
         Node::Silent => Kind::Silent,

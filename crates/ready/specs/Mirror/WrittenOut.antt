@@ -19,17 +19,6 @@ put w kind x A = wrote (set w.nodes w.count (packed kind x)) (set w.sets w.count
 abbrev pub last : Written → ℕ
 last w = w.count - 1
 
--- the number of a construct, as in the file
-abbrev pub kind_of : Node → ℕ
-kind_of Silent = 1
-kind_of (Event b) = 2
-kind_of (Not x) = 3
-kind_of (Either x y) = 4
-kind_of (Then x y) = 5
-kind_of (Repeat x) = 6
-kind_of (Notify x A) = 7
-kind_of (Try x y) = 8
-
 -- a record written out, where `go` writes its parts out
 abbrev pub assembled : (ℕ → Written → Written) → Node → Written → Written
 assembled go Silent w = put w 1 0 0
