@@ -23,7 +23,7 @@ use Rattle.files.proofs.Inserting.{sorted_same, sorted_taken}
 use Rattle.files.proofs.Places.{places_read, places_fit}
 use Rattle.alike.specs.declared.pair.Pair.{Pair}
 use Rattle.alike.specs.Proposal.{records, listing, left_of, right_of, verdict}
-use Rattle.alike.specs.Tables.{record_of, expressions, Held, RecordIndex, left_in, right_in, PairIndex, Within, Decodes, Decoded, Splits, Split, SortedInto}
+use Rattle.alike.specs.Tables.{record_of, pair_of, expressions, Held, RecordIndex, left_in, right_in, PairIndex, Within, Kept, Decodes, Decoded, Splits, Split, SortedInto}
 use Rattle.alike.specs.Verdict.{Outcome, first_fault, closing, judged}
 use Rattle.alike.specs.Ready.{Ready}
 use Rattle.alike.proofs.Growing.{expr_same}
@@ -46,12 +46,14 @@ index_read : (s at : List ℕ) {ix : List ℕ} {n : ℕ} → n ≤ length at →
 index_read s at {ix} {n} fits room sorted =
     rw (length-take-le n at fits) (sorted_same (node_taken s at n) (sorted_taken room sorted))
 
--- what the two calls leave, where they are lent just the room
-pub decoded_whole : {es at : List ℕ} {room : ℕ} {ns : List Node} → (length ns ≡ room) × Decodes es at ns → room ≡ length at → Decoded es at ns
-decoded_whole d whole = record { long = d.0 ∙ whole; rows = d.1 }
+-- what the two calls leave of a slice that is just long enough
+pub decoded_whole : {es at : List ℕ} (was : List Node) {ns : List Node} → Kept record_of at was ns × Decodes es at ns → length was ≡ length at
+    → Decoded es at ns
+decoded_whole was d whole = record { long = d.0.0 ∙ whole; rows = d.1 }
 
-pub split_whole : {ps at : List ℕ} {room : ℕ} {pairs : List Pair} → (length pairs ≡ room) × Splits ps at pairs → room ≡ length at → Split ps at pairs
-split_whole s whole = record { long = s.0 ∙ whole; rows = s.1 }
+pub split_whole : {ps at : List ℕ} (was : List Pair) {pairs : List Pair} → Kept pair_of at was pairs × Splits ps at pairs → length was ≡ length at
+    → Split ps at pairs
+split_whole was s whole = record { long = s.0.0 ∙ whole; rows = s.1 }
 
 module _ (es ps : List ℕ) {number count place : ℕ} {was at : List ℕ} (r : ReadTo (reading es) number count place was at)
     {number' count' place' : ℕ} {was' at' : List ℕ} (s : ReadTo (reading_pairs ps count) number' count' place' was' at') where

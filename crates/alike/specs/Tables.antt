@@ -60,11 +60,15 @@ pub record Within (n : ℕ) (ps : List Pair) : Type 0 where
 
 -- ---- what `decode`, `split` and `sort` leave
 
+-- what stands behind the places stays, and the length
+abbrev pub Kept : {A : Type 0} → (List A → ℕ → A) → List ℕ → List A → List A → Type 0
+Kept entry at was xs = (length xs ≡ length was) × ((i : ℕ) → length at ≤ i → entry xs i ≡ entry was i)
+
 -- the records at the places `at` of the file s
 abbrev pub Decodes : List ℕ → List ℕ → List Node → Type 0
 Decodes s at ns = (r : ℕ) → r < length at → record_of ns r ≡ node_in s at r
 
--- and no others
+-- where no others are
 pub record Decoded (s at : List ℕ) (ns : List Node) : Type 0 where
   pub long : length ns ≡ length at
   pub rows : Decodes s at ns
@@ -73,7 +77,7 @@ pub record Decoded (s at : List ℕ) (ns : List Node) : Type 0 where
 abbrev pub Splits : List ℕ → List ℕ → List Pair → Type 0
 Splits s at ps = (i : ℕ) → i < length at → pair_of ps i ≡ pair (word_at s (get_or at i 0) 4) (word_at s (get_or at i 0) 6)
 
--- and no others
+-- where no others are
 pub record Split (s at : List ℕ) (ps : List Pair) : Type 0 where
   pub long : length ps ≡ length at
   pub rows : Splits s at ps

@@ -25,7 +25,7 @@ split-requires c = let few = listed_few c.requires in search rules
 pub invariant_of-records : goal.invariant_of-records
 invariant_of-records c =
     let few = count_few c.requires in
-    let d = decoded_whole c.decode.ensures (search rules) in
+    let d = decoded_whole _ c.decode.ensures (search rules) in
     record { held = held_ready c.requires d; sorted = indexed_ready c.requires d }
 
 pub invariant_of-pairs : goal.invariant_of-pairs
@@ -35,12 +35,12 @@ pub first_fault-requires : goal.first_fault-requires
 first_fault-requires c =
     let few = count_few c.requires in
     let listed = listed_few c.requires in
-    within_ready c.requires (split_whole c.split.ensures (search rules)) (decoded_whole c.decode.ensures (search rules))
+    within_ready c.requires (split_whole _ c.split.ensures (search rules)) (decoded_whole _ c.decode.ensures (search rules))
 
 pub returns : goal.returns
 returns c =
     let few = count_few c.requires in
     let listed = listed_few c.requires in
-    let s = split_whole c.split.ensures (search rules) in
+    let s = split_whole _ c.split.ensures (search rules) in
     ap (outcome_of c.first_fault.result) (sym s.long) ∙ c.first_fault.ensures
-    ∙ closing_ready c.requires s (decoded_whole c.decode.ensures (search rules))
+    ∙ closing_ready c.requires s (decoded_whole _ c.decode.ensures (search rules))
