@@ -61,18 +61,18 @@ pub fn print(input: &[u8], output: &mut [u8]) -> usize
     ensures { PrintedAs (text_of input.now) output.old result output.new }
 {
     if 8192 < input.len() {
-        return text::put_refusal(output, Refusal::InputTooLong);
+        return text::put_refusal(output, u8::from(Refusal::InputTooLong));
     }
     if input.len() < 2 {
-        return text::put_refusal(output, Refusal::CutShort);
+        return text::put_refusal(output, u8::from(Refusal::CutShort));
     }
     let size = records::part_at(input, 0, 0);
     if input.len() - 2 < size {
-        return text::put_refusal(output, Refusal::CutShort);
+        return text::put_refusal(output, u8::from(Refusal::CutShort));
     }
     let start = 2 + size;
     match ready::ready_of(&input[2..start]) {
         Ok(ready) => put_rule(&ready.rule(), ready.fresh, &input[start..], output),
-        Err(refusal) => text::put_refusal(output, refusal),
+        Err(refusal) => text::put_refusal(output, u8::from(refusal)),
     }
 }

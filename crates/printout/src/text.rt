@@ -1,12 +1,10 @@
 // Words, numbers and lines of the printer's text, written into the output. `write!` to a `&mut [u8]` would promise nothing of the bytes.
 ghost use Rattle.std.specs.Prelude.{◌≡◌, ◌+◌, ◌*◌, ◌<◌, ◌≤◌, length};
 ghost use Rattle.std.proofs.lemmas.List.Edits.{sets};
-ghost use Rattle.records.specs.Refusals.{number_of};
 ghost use Rattle.printout.specs.Text.{hex_digit, decimal_length, decimal, status_word, line, refused_text};
 ghost use Rattle.printout.specs.Printed.{PrintedAs};
 
 use par::{Notices, Status};
-use records::Refusal;
 
 // A hexadecimal digit, lower-case.
 fn hex_digit(n: u8) -> u8
@@ -76,10 +74,10 @@ pub fn put_line(out: &mut [u8], event: u8, notices: Notices, status: Status)
 }
 
 // Prints a refusal, where it fits; how long it is.
-pub fn put_refusal(output: &mut [u8], refusal: Refusal) -> usize
-    ensures { PrintedAs (refused_text (number_of refusal)) output.old result output.new }
+pub fn put_refusal(output: &mut [u8], number: u8) -> usize
+    requires { number < 100 }
+    ensures { PrintedAs (refused_text number) output.old result output.new }
 {
-    let number = u8::from(refusal);
     let n = 9 + decimal_length(number);
     if output.len() < n {
         return n;

@@ -10,21 +10,22 @@ use Rattle.printout.proofs.Texts.{text_large, text_short, text_cut, text_refused
 use Rattle.printout.proofs.print.Goals as goal
 
 pub returns-then-input-gt8192 : goal.returns-then-input-gt8192
-returns-then-input-gt8192 c = rw (text_large c.args.input.now c.if-input-gt8192.true) c.put_refusal.ensures
+returns-then-input-gt8192 c = rw (text_large c.args.input.now c.if-input-gt8192.true) (rw c.from.ensures at c.put_refusal.ensures)
 
 pub returns-then-input-lt2 : goal.returns-then-input-lt2
-returns-then-input-lt2 c = rw (text_short c.args.input.now c.if-input-gt8192.false c.if-input-lt2.true) c.put_refusal-then-input-lt2.ensures
+returns-then-input-lt2 c = rw (text_short c.args.input.now c.if-input-gt8192.false c.if-input-lt2.true)
+    (rw c.from-then-input-lt2.ensures at c.put_refusal-then-input-lt2.ensures)
 
 pub returns-then-input-size : goal.returns-then-input-size
 returns-then-input-size c =
     let cut = text_cut c.args.input.now c.if-input-gt8192.false c.if-input-lt2.false (omega
     (arith, c.if-input-size.true, c.part_at-size.ensures)) in
-    rw cut c.put_refusal-then-input-size.ensures
+    rw cut (rw c.from-then-input-size.ensures at c.put_refusal-then-input-size.ensures)
 
 pub returns-in-Err : goal.returns-in-Err
 returns-in-Err c =
     rw (text_refused_in c.args.input.now c.part_at-size.ensures c.if-input-gt8192.false c.if-input-lt2.false c.if-input-size.false c.in-Err.refusal
-    c.in-Err.ensures.refused) c.put_refusal-in-Err.ensures
+    c.in-Err.ensures.refused) (rw c.from-in-Err.ensures at c.put_refusal-in-Err.ensures)
 
 pub put_rule-requires : goal.put_rule-requires
 put_rule-requires c = simp (length-take, length-drop) (omega (arith, c.if-input-gt8192.false))
