@@ -2,9 +2,11 @@
 // A stored file is four bytes of length, little-endian, and then its bytes.
 #![tactic(auto)]
 
-ghost use Rattle.std.specs.Prelude.{◌-◌, ◌≤◌, length};
+ghost use Rattle.std.specs.Prelude.{◌≡◌, ◌-◌, ◌≤◌, length};
+ghost use Rattle.std.specs.Result.{result_unwrap_or};
+ghost use Rattle.records.specs.Refusals.{number};
 
-use files::Rule;
+use records::Refusal;
 use std::io;
 use std::io::{BufWriter, Read, Write};
 
@@ -23,23 +25,33 @@ fn first_file(input: &[u8]) -> (&[u8], &[u8])
     rest.split_at(size.min(rest.len()))
 }
 
-// Prints one case's readings: number, place, count, and of a rule its size, 0 where it is refused.
-fn print_case(out: &mut impl Write, expressions: &[u8], pairs: &[u8]) -> io::Result<()> {
-    let Rule { size, count, place } = files::rule_of(expressions);
+// What a rule's reading says beside its place and count: its number, and the rule's size, 0 where it is refused.
+fn told(size: Result<u8, Refusal>) -> (u8, u8)
+    ensures number { result.0 ≡ number size }
+    ensures size { result.1 ≡ result_unwrap_or size 0 }
+{
     match size {
-        Ok(size) => {
-            writeln!(out, "rule 0 {place} {count} {size}")?;
-            let reading = files::pairs_of(pairs, count);
-            writeln!(
-                out,
-                "pairs {} {} {}",
-                records::number(reading.outcome),
-                reading.place,
-                reading.count
-            )
-        }
-        Err(refusal) => writeln!(out, "rule {} {place} {count} 0", u8::from(refusal)),
+        Ok(size) => (0, size),
+        Err(refusal) => (u8::from(refusal), 0),
     }
+}
+
+// Prints one case's readings: number, place, count, and of a rule its size.
+fn print_case(out: &mut impl Write, expressions: &[u8], pairs: &[u8]) -> io::Result<()> {
+    let rule = files::rule_of(expressions);
+    let (number, size) = told(rule.size);
+    writeln!(out, "rule {number} {} {} {size}", rule.place, rule.count)?;
+    if rule.size.is_ok() {
+        let reading = files::pairs_of(pairs, rule.count);
+        writeln!(
+            out,
+            "pairs {} {} {}",
+            records::number(reading.outcome),
+            reading.place,
+            reading.count
+        )?;
+    }
+    Ok(())
 }
 
 fn print_all(out: &mut impl Write, input: &[u8]) -> io::Result<()> {

@@ -3,8 +3,11 @@
 // A number is four bytes, little-endian; a string is its length and then its bytes.
 #![tactic(auto)]
 
-ghost use Rattle.std.specs.Prelude.{◌-◌, ◌≤◌, ◌<◌, length, IfSome};
+ghost use Rattle.std.specs.Prelude.{◌≡◌, ◌-◌, ◌≤◌, ◌<◌, length, IfSome};
 ghost use Rattle.std.specs.Iterator.{at_most};
+ghost use Rattle.records.specs.Refusals.{number};
+ghost use Rattle.engine.specs.Feed.{written};
+ghost use Rattle.engine.specs.Reply.{said};
 
 use par::{Answer, Status};
 use records::{Contents, Refusal};
@@ -131,6 +134,17 @@ impl fmt::Display for Hex<'_> {
     }
 }
 
+// What a run says: its number, and how many bytes it wrote, none where it is refused.
+fn ran(outcome: Result<usize, Refusal>) -> (u8, usize)
+    ensures number { result.0 ≡ number outcome }
+    ensures written { result.1 ≡ written outcome }
+{
+    match outcome {
+        Ok(written) => (0, written),
+        Err(refusal) => (u8::from(refusal), 0),
+    }
+}
+
 // Runs a feed into the front of a buffer, as far as the room goes, and prints all of that. Every byte there is the same before the run, so that what
 // it changes is seen.
 fn print_run(
@@ -145,29 +159,38 @@ fn print_run(
         return Ok(());
     }
     let part = &mut buffer[..room];
-    match engine::run(rule, events, part, place) {
-        Ok(written) => writeln!(out, "run 0 {written} {}", Hex(part)),
-        Err(refusal) => writeln!(out, "run {} 0 {}", u8::from(refusal), Hex(part)),
+    let (number, written) = ran(engine::run(rule, events, part, place));
+    writeln!(out, "run {number} {written} {}", Hex(part))
+}
+
+// What a step says: its number and the answer; where it is refused, none, waiting and 0.
+fn said(reply: Result<Answer, Refusal>) -> (u8, Answer)
+    ensures number { result.0 ≡ number reply }
+    ensures answer { result.1 ≡ said reply }
+{
+    match reply {
+        Ok(answer) => (0, answer),
+        Err(refusal) => (
+            u8::from(refusal),
+            Answer {
+                notices: 0,
+                lines: 0,
+                status: Status::Waiting,
+            },
+        ),
     }
 }
 
-// Prints a step's number, notices, status byte and lines; where it is refused, none, waiting and 0.
+// Prints a step's number, notices, status byte and lines.
 fn print_reply(out: &mut impl Write, reply: Result<Answer, Refusal>) -> io::Result<()> {
-    match reply {
-        Ok(answer) => writeln!(
-            out,
-            "step 0 {} {} {}",
-            answer.notices,
-            u8::from(answer.status),
-            answer.lines
-        ),
-        Err(refusal) => writeln!(
-            out,
-            "step {} 0 {} 0",
-            u8::from(refusal),
-            u8::from(Status::Waiting)
-        ),
-    }
+    let (number, answer) = said(reply);
+    writeln!(
+        out,
+        "step {number} {} {} {}",
+        answer.notices,
+        u8::from(answer.status),
+        answer.lines
+    )
 }
 
 fn print_desk(out: &mut impl Write, calls: &[u8]) -> io::Result<()> {
