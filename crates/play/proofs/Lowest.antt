@@ -6,6 +6,8 @@ use mathlib.Core.List.{List}
 use native.Mathlib.Omega.{arith}
 use lib.Dec.{eqb, eqb-suc-zero, eqb-suc-suc}
 use lib.Count.{count_trailing_zeros, under}
+use lib.Bits.{xor_add_and}
+use lib.Pow.{pow_pos}
 use borrow.Author.Tests.{eq-eqb, ne_eqb, eqb-true, eqb-false}
 use Rattle.play.specs.Mirror.Masks.{bit, one, with, less, both}
 use Rattle.play.specs.Mirror.Nodes.{first_at}
@@ -40,6 +42,20 @@ module _ (n : ℕ) (h : n < 2 ^ 64) (z : n ≡ 0 → ⊥) where
   pub lowest_on : bit n (count_trailing_zeros 64 n) ≡ true
   lowest_on = (lowest_at 64 n h z).on
 
+-- taking a node out that is in makes the number less
+pub less_falls : (A r : ℕ) → A < 2 ^ 64 → r < 64 → bit A r ≡ true → less A (one r) < A
+unfolding less both one
+less_falls A r h few i =
+    let only : both A (one r) ≡ one r = same_bits 64 (both A (one r)) (one r) (both_small A (one r) h) (one_small r few)
+    (λ q l. bit_both A (one r) q ∙ rw (bit_one r q) (own q (eqb q r) refl) ∙ sym (bit_one r q)) in
+    let sum = xor_add_and A (2 ^ r) in
+    let pos = pow_pos r in
+    rw (only) (omega (arith, sum, only, pos))
+  where
+    own : (q : ℕ) (b : Bool) → eqb q r ≡ b → bit A q && b ≡ b
+    own q true j = rw (eqb-true q r j, i) refl
+    own q false j = and_false (bit A q)
+
 -- a number and the one before it have all its digits in common but the lowest
 drop_bits : (k n : ℕ) → n < 2 ^ k → (n ≡ 0 → ⊥) → (q : ℕ) → bit n q && bit (n - 1) q ≡ (bit n q && not (eqb q (count_trailing_zeros k n)))
 unfolding count_trailing_zeros
@@ -71,6 +87,9 @@ dropped n h z =
     let r = count_trailing_zeros 64 n in
     same_bits 64 (both n (n - 1)) (less n (one r)) (both_small n (n - 1) h) (less_small n (one r) h)
     (λ q l. bit_both n (n - 1) q ∙ drop_bits 64 n h z q ∙ sym (bit_less n (one r) q ∙ rw (bit_one r q) refl))
+
+pub drop_falls : (n : ℕ) → n < 2 ^ 64 → (n ≡ 0 → ⊥) → both n (n - 1) < n
+drop_falls n h z = rw (dropped n h z) (less_falls n (count_trailing_zeros 64 n) h (lowest_few n h z) (lowest_on n h z))
 
 -- ---- the events in play, one after the other
 

@@ -2,13 +2,17 @@
 use Rattle.std.proofs.Common.{◌∙◌, arith, eq-eqb, ne_eqb, sym}
 use Rattle.play.specs.Mirror.Masks.{with, both}
 use Rattle.play.specs.Mirror.Nodes.{first_at}
-use Rattle.play.proofs.Lowest.{meets_none, meets_drop, meets_all}
+use Rattle.play.proofs.Lowest.{meets_none, meets_drop, meets_all, drop_falls}
 use Rattle.play.proofs.met_of.Goals as goal
 use Rattle.play.proofs.met_of.Goals.{then-nodes-r, else-nodes-r}
 
 pub loop-left-init : goal.loop-left-init
 unfolding both
 loop-left-init c = meets_none c.args.nodes.now c.args.leaves c.args.event c.args.active (omega arith)
+
+pub loop-left-smaller : goal.loop-left-smaller
+unfolding both
+loop-left-smaller c = drop_falls c.loop-left.left c.loop-left.invariant.left_small c.loop-left-test.true
 
 pub loop-left-preserved : goal.loop-left-preserved
 unfolding first_at with both
