@@ -16,7 +16,7 @@ pub struct Span {
 impl Span {
     // As a set.
     #[tactic(auto, using(crate::proofs::Shifts::top_fits), unfolding(crate::specs::Mirror::Masks::span))]
-    fn nodes(self) -> u64
+    pub fn nodes(self) -> u64
         ensures { result ≡ spanned self.first self.last }
     {
         let top = masks::below(self.last) + masks::one(self.last);
