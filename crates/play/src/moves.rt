@@ -31,7 +31,7 @@ pub fn down(arrival: &Arrival, words: &mut Words, span: Span) -> Status
     let n = arrival.nodes[r]; // as the desk of the C interface holds it
     let kind = Kind::from(n % 256);
     let x = usize::from(n / 256);
-    match ways::route_of(kind, words.active, arrival.met, span, x) {
+    match ways::route_of(n % 256, words.active, arrival.met, span, x) {
         Route::Silent => Status::Waiting,
         Route::First => down(arrival, words, span.first_part(x)),
         Route::Second => down(arrival, words, span.second_part(x)),

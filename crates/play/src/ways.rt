@@ -40,7 +40,7 @@ fn pair_of(kind: Kind, active: u64, met: u64, span: Span, x: usize) -> Route
 
 // A node whose parts do not stand in their places is taken as silent: no rule that was written out holds one.
 #[tactic(auto, unfolding(crate::specs::Mirror::Down::route_of))]
-pub fn route_of(kind: Kind, active: u64, met: u64, span: Span, x: usize) -> Route
+fn route_by(kind: Kind, active: u64, met: u64, span: Span, x: usize) -> Route
     ensures placed { Placed span.first x span.last result }
     ensures way { result ≡ route_of (kind_number kind) active met span.first x span.last }
 {
@@ -54,4 +54,13 @@ pub fn route_of(kind: Kind, active: u64, met: u64, span: Span, x: usize) -> Rout
         }
         _ => Route::Silent,
     }
+}
+
+// Its kind comes as a number, any whatever: one that is no kind's is silent.
+#[tactic(auto, using(crate::proofs::Routes::route_known))]
+pub fn route_of(number: u16, active: u64, met: u64, span: Span, x: usize) -> Route
+    ensures placed { Placed span.first x span.last result }
+    ensures way { result ≡ route_of number active met span.first x span.last }
+{
+    route_by(Kind::from(number), active, met, span, x)
 }
