@@ -3,7 +3,7 @@
 
 pub mod feed; // feed.rt: the whole feed
 
-ghost use Rattle.std.specs.Prelude.{◌≡◌, ◌%◌, IfOk};
+ghost use Rattle.std.specs.Prelude.{◌≡◌, ◌%◌, eqb, IfOk};
 ghost use Rattle.records.specs.Refusals.{number};
 ghost use Rattle.files.specs.Rule.{rule_number};
 ghost use Rattle.engine.specs.Reply.{said};
@@ -41,6 +41,13 @@ pub struct Moved {
 }
 
 impl Desk {
+    // Whether no rule is open: the mark is 0, and no other byte.
+    fn is_closed(&self) -> bool
+        ensures { result ≡ eqb self.now.is_open 0 }
+    {
+        self.is_open == 0
+    }
+
     // The rule that it holds. On any bytes the root is the number of a node.
     fn rule(&self) -> Rule<'_>
         ensures nodes { result.nodes.now ≡ self.now.nodes }
@@ -147,7 +154,7 @@ pub fn step(d: &mut Desk, event: u8) -> Result<Answer, Refusal>
         × ByTheBook d.old (stepping event) (replied result) d.new
         × WithinRule d.old (said result).lines }
 {
-    if d.is_open == 0 {
+    if d.is_closed() {
         return Err(Refusal::NoRuleOpen);
     }
     let state = State {
