@@ -17,37 +17,37 @@ rule_size-requires c = records_ready _ c.read_expressions-reading.ensures.read (
 
 pub returns-then-rule_size-gt64-clause-refused : goal.returns-then-rule_size-gt64-clause-refused
 returns-then-rule_size-gt64-clause-refused c =
-    refused_large _ c.read_expressions-reading.ensures.read (rw c.in_ok-reading.was) c.rule_size.ensures c.if-rule_size-gt64.true
+    refused_large _ c.read_expressions-reading.ensures.read (rw c.in_ok-reading.was) c.rule_size.ensures (omega arith)
 
 pub overflow_sub-at : goal.overflow_sub-at
 overflow_sub-at c = (records_ready _ c.read_expressions-reading.ensures.read (rw c.in_ok-reading.was)).0.0
 
 pub write_out-requires : goal.write_out-requires
 write_out-requires c =
-    write_room _ c.read_expressions-reading.ensures.read (rw c.in_ok-reading.was) c.rule_size.ensures c.if-rule_size-gt64.false
+    write_room _ c.read_expressions-reading.ensures.read (rw c.in_ok-reading.was) c.rule_size.ensures (omega arith)
 
 pub overflow_sub-root : goal.overflow_sub-root
 overflow_sub-root c =
-    (nodes_some _ c.read_expressions-reading.ensures.read (rw c.in_ok-reading.was) c.rule_size.ensures c.if-rule_size-gt64.false
+    (nodes_some _ c.read_expressions-reading.ensures.read (rw c.in_ok-reading.was) c.rule_size.ensures (omega arith)
     c.write_out.ensures).0
 
 pub prepare-start-requires : goal.prepare-start-requires
 prepare-start-requires c =
-    let n = nodes_some _ c.read_expressions-reading.ensures.read (rw c.in_ok-reading.was) c.rule_size.ensures c.if-rule_size-gt64.false
+    let n = nodes_some _ c.read_expressions-reading.ensures.read (rw c.in_ok-reading.was) c.rule_size.ensures (omega arith)
     c.write_out.ensures in
     omega arith
 
 pub returns-clause-refused : goal.returns-clause-refused
 returns-clause-refused c =
-    sym (accepted _ c.read_expressions-reading.ensures.read (rw c.in_ok-reading.was) c.rule_size.ensures c.if-rule_size-gt64.false)
+    sym (accepted _ c.read_expressions-reading.ensures.read (rw c.in_ok-reading.was) c.rule_size.ensures (omega arith))
 
 pub returns-clause-ready : goal.returns-clause-ready
 returns-clause-ready c =
-    rule_ready _ c.read_expressions-reading.ensures.read (rw c.in_ok-reading.was) c.rule_size.ensures c.if-rule_size-gt64.false
+    rule_ready _ c.read_expressions-reading.ensures.read (rw c.in_ok-reading.was) c.rule_size.ensures (omega arith)
     c.write_out.ensures c.prepare-start.ensures
 
 pub returns-clause-root_few : goal.returns-clause-root_few
 returns-clause-root_few c =
-    let n = nodes_some _ c.read_expressions-reading.ensures.read (rw c.in_ok-reading.was) c.rule_size.ensures c.if-rule_size-gt64.false
+    let n = nodes_some _ c.read_expressions-reading.ensures.read (rw c.in_ok-reading.was) c.rule_size.ensures (omega arith)
     c.write_out.ensures in
     omega arith
