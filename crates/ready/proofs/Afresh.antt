@@ -6,10 +6,10 @@ use mathlib.Core.List.{List}
 use native.Mathlib.Omega.{arith}
 use lib.ListN.{length, get_or}
 use lib.Dec.{eqb}
-use borrow.Author.Tests.{lt-ltb, le-ltb}
+use borrow.Author.Tests.{lt-ltb}
 use Rattle.par.specs.Expr.{Expr}
 use Rattle.play.specs.Mirror.Masks.{bit, one}
-use Rattle.play.specs.Mirror.Nodes.{known_kind, packed, kind_at, first_at, gain_at}
+use Rattle.play.specs.Mirror.Nodes.{packed, kind_at, first_at, gain_at}
 use Rattle.play.proofs.Plays.{One, Two, Stands, Stands.goes}
 use Rattle.play.proofs.Plays.{Plays.silent, Plays.event, Plays.not, Plays.notify, Plays.repeat_fresh}
 use Rattle.play.proofs.Plays.{Plays.either_both, Plays.then_first, Plays.try_both}
@@ -32,29 +32,24 @@ record Tells (F S H G : List ℕ) (L R kind x y : ℕ) : Type 0 where
   leaf_is : bit L (suc y) ≡ eqb kind 2
   repeat_is : bit R (suc y) ≡ eqb kind 6
 
-known : (kind : ℕ) → (1 ≤ kind) × (kind ≤ 8) → known_kind kind ≡ kind
-unfolding known_kind
-known kind h = rw (le-ltb kind 1 h.0, le-ltb 8 kind h.1)
-
 module _ {F S H G : List ℕ} {L R n : ℕ} (few : n ≤ 64) (has : Has F S n H G L R) where
   before : (x r : ℕ) → x < r → earlier H x r ≡ get_or H x 0
   unfolding earlier
   before x r h = rw (lt-ltb x r h)
 
-  tells : (kind x y : ℕ) → (1 ≤ kind) × (kind ≤ 8) → get_or F (suc y) 0 ≡ packed kind x → x ≤ y → suc y < n → Tells F S H G L R kind x y
+  tells : (kind x y : ℕ) → kind < 256 → get_or F (suc y) 0 ≡ packed kind x → x ≤ y → suc y < n → Tells F S H G L R kind x y
   unfolding kind_at first_at
   tells kind x y small i l h =
       let k : kind_at F (suc y) ≡ kind = rw i (omega arith) in
-      let m = known kind small in
       let f : first_at F (suc y) ≡ x = rw i (omega arith) in
       let z : suc y - 1 ≡ y = omega arith in
       record {
         kind_is = k;
         first_is = f;
-        fresh_is = has.fresh_is (suc y) h ∙ rw (k, m, f, z, before x (suc y) (omega arith), before y (suc y) (omega arith));
-        gain_is = has.gain_is (suc y) h ∙ rw (k, m, z, before y (suc y) (omega arith));
-        leaf_is = has.leaf_is (suc y) h ∙ rw (k, m);
-        repeat_is = has.repeat_is (suc y) h ∙ rw (k, m);
+        fresh_is = has.fresh_is (suc y) h ∙ rw (k, f, z, before x (suc y) (omega arith), before y (suc y) (omega arith));
+        gain_is = has.gain_is (suc y) h ∙ rw (k, z, before y (suc y) (omega arith));
+        leaf_is = has.leaf_is (suc y) h ∙ rw k;
+        repeat_is = has.repeat_is (suc y) h ∙ rw k;
       }
 
   one_at : {kind lo x A : ℕ} {d : Expr} → Tells F S H G L R kind x x → eqb kind 2 ≡ false → suc x < n → At F G L R A lo x d → One F L kind lo x
@@ -74,37 +69,36 @@ module _ {F S H G : List ℕ} {L R n : ℕ} (few : n ≤ 64) (has : Has F S n H 
       }
 
   -- of a node that has none
-  leaf : (kind x r : ℕ) → (1 ≤ kind) × (kind < 3) → get_or F r 0 ≡ packed kind x → r < n
+  leaf : (kind x r : ℕ) → kind < 3 → get_or F r 0 ≡ packed kind x → r < n
       → (kind_at F r ≡ kind) × (first_at F r ≡ x) × (get_or H r 0 ≡ one r) × (bit L r ≡ eqb kind 2)
   unfolding kind_at first_at fresh_from
   leaf kind x r small i h =
       let k : kind_at F r ≡ kind = rw i (omega arith) in
-      let m = known kind (small.0, omega arith) in
-      (k, rw i (omega arith), has.fresh_is r h ∙ rw (k, m, lt-ltb kind 3 small.1), has.leaf_is r h ∙ rw (k, m))
+      (k, rw i (omega arith), has.fresh_is r h ∙ rw (k, lt-ltb kind 3 small), has.leaf_is r h ∙ rw k)
 
   -- ---- by construct
 
   afresh : {lo r : ℕ} {e : Expr} → Lays F S lo r e → r < n → At F G L R (get_or H r 0) lo r e
   unfolding fresh_from gain_from
   afresh {r = r} (lies_silent i) h =
-      let t = leaf 1 0 r (omega arith, omega arith) i h in
+      let t = leaf 1 0 r (omega arith) i h in
       rw t.2 (record { plays = silent (record { kind_is = t.0 }) t.3 (one_self r); only = only_one r })
   afresh {r = r} (lies_event {b = b} i) h =
-      let t = leaf 2 b r (omega arith, omega arith) i h in
+      let t = leaf 2 b r (omega arith) i h in
       rw t.2 (record { plays = event (record { kind_is = t.0 }) t.3 t.1 (one_self r); only = only_one r })
   afresh (lies_not {x = x} i m) h =
       let a = afresh m (omega arith) in
-      let t = tells 3 x x (omega arith, omega arith) i (omega arith) h in
+      let t = tells 3 x x (omega arith) i (omega arith) h in
       let w = with_first x (omega arith) a in
       rw t.fresh_is (record { plays = not (one_at t refl h a) (with_self _ (suc x)) w.0; only = w.1 })
   afresh (lies_notify {x = x} i j m) h =
       let a = afresh m (omega arith) in
-      let t = tells 7 x x (omega arith, omega arith) i (omega arith) h in
+      let t = tells 7 x x (omega arith) i (omega arith) h in
       let w = with_first x (omega arith) a in
       rw t.fresh_is (record { plays = notify (one_at t refl h a) (with_self _ (suc x)) (t.gain_is ∙ j) w.0; only = w.1 })
   afresh (lies_repeat {x = x} i m) h =
       let a = afresh m (omega arith) in
-      let t = tells 6 x x (omega arith, omega arith) i (omega arith) h in
+      let t = tells 6 x x (omega arith) i (omega arith) h in
       let w = with_first x (omega arith) a in
       let g = at_is t.gain_is a in
       rw t.fresh_is
@@ -115,19 +109,19 @@ module _ {F S H G : List ℕ} {L R n : ℕ} (few : n ≤ 64) (has : Has F S n H 
   afresh (lies_either {x = x} {y = y} i l m k) h =
       let a = afresh m (omega arith) in
       let b = afresh k (omega arith) in
-      let t = tells 4 x y (omega arith, omega arith) i (omega arith) h in
+      let t = tells 4 x y (omega arith) i (omega arith) h in
       let w = with_both a b in
       rw t.fresh_is (record { plays = either_both (two_at t refl h l a) (with_self _ (suc y)) w.0 w.1; only = w.2 })
   afresh (lies_try {x = x} {y = y} i l m k) h =
       let a = afresh m (omega arith) in
       let b = afresh k (omega arith) in
-      let t = tells 8 x y (omega arith, omega arith) i (omega arith) h in
+      let t = tells 8 x y (omega arith) i (omega arith) h in
       let w = with_both a b in
       rw t.fresh_is (record { plays = try_both (two_at t refl h l a) (with_self _ (suc y)) w.0 w.1; only = w.2 })
   afresh (lies_then {x = x} {y = y} i l m k) h =
       let a = afresh m (omega arith) in
       let b = afresh k (omega arith) in
-      let t = tells 5 x y (omega arith, omega arith) i (omega arith) h in
+      let t = tells 5 x y (omega arith) i (omega arith) h in
       let w = with_first y (omega arith) a in
       let g = at_is t.gain_is b in
       rw t.fresh_is

@@ -8,5 +8,6 @@ pub mod Lays
 pub mod Prepared
 pub mod Beside
 pub mod Keeps
+pub mod Numbers
 pub mod Rooms
 pub mod Readying

@@ -2,7 +2,7 @@
 // `play::masks`.
 ghost use Rattle.std.specs.Prelude.{◌≡◌, ◌-◌, ◌/◌, ◌<◌};
 ghost use Rattle.play.specs.Mirror.Nodes.{kind_number};
-ghost use Rattle.ready.specs.Mirror.Fresh.{fresh_from, gain_from, marked as marked_by, earlier as earlier_of, Prepares};
+ghost use Rattle.ready.specs.Mirror.Fresh.{fresh_from, gain_from, marked as marked_by, earlier as earlier_of, AlikeAfresh, Prepares};
 
 use play::kinds::Kind;
 use play::masks;
@@ -39,6 +39,18 @@ fn first(fresh: &[u64; 64], n: u16, r: usize) -> u64
     ensures { result ≡ earlier_of fresh.now (n / 256) r }
 {
     earlier(fresh, usize::from(n / 256), r)
+}
+
+// The kind that a node with this number of a kind is made ready as. Above 8 it is no construct's: its node has its first part in play, as a not has.
+#[tactic(auto, using(crate::proofs::Numbers::alike_known, crate::proofs::Numbers::alike_above))]
+fn kind_afresh(number: u16) -> Kind
+    ensures { AlikeAfresh number (kind_number result) }
+{
+    if 8 < number {
+        Kind::Not
+    } else {
+        Kind::from(number)
+    }
 }
 
 // Either and try have both parts in play, any other the first.
@@ -90,7 +102,7 @@ pub fn prepare(nodes: &[u16; 64], gain: &mut [u64; 64], root: usize) -> Start
     // by number: a node is made ready from those before it, and both tables are written at it; over `nodes[..=root]` the proof did not close
     for r in 0..root + 1 {
         let n = nodes[r];
-        let kind = Kind::from(n % 256);
+        let kind = kind_afresh(n % 256);
         let y = last(&fresh, r);
         let x = first(&fresh, n, r);
         gain[r] = gain_of(kind, gain[r], y);

@@ -2,7 +2,7 @@
 use Rattle.std.specs.Prelude.{ℕ, zero, suc, ◌-◌, ◌≡◌, cond, get_or, set, eqb, ltb}
 use mathlib.Core.List.{List, replicate}
 use Rattle.play.specs.Mirror.Masks.{one, with}
-use Rattle.play.specs.Mirror.Nodes.{known_kind, kind_at, first_at}
+use Rattle.play.specs.Mirror.Nodes.{kind_at, first_at}
 use Rattle.ready.specs.declared.fresh.Start.{Start}
 
 -- ---- one node
@@ -23,6 +23,13 @@ gain_from kind set last = cond (eqb kind 7) set last
 unfoldable pub marked : ℕ → ℕ → ℕ → ℕ → ℕ
 marked kind wanted r A = cond (eqb kind wanted) (with A (one r)) A
 
+-- a node of kind k is made ready as one of kind m
+pub record AlikeAfresh (k m : ℕ) : Type 0 where
+  pub fresh : (r first last : ℕ) → fresh_from m r first last ≡ fresh_from k r first last
+  pub gain : (set last : ℕ) → gain_from m set last ≡ gain_from k set last
+  pub leaf : (r A : ℕ) → marked m 2 r A ≡ marked k 2 r A
+  pub repeat : (r A : ℕ) → marked m 6 r A ≡ marked k 6 r A
+
 -- ---- all nodes below a number
 
 pub record Prepared : Type 0 where
@@ -38,16 +45,13 @@ prepared H G L R = record { fresh = H; gain = G; leaves = L; repeats = R }
 unfoldable pub earlier : List ℕ → ℕ → ℕ → ℕ
 earlier H x r = cond (ltb x r) (get_or H x 0) 0
 
--- node r, which is of this kind, from those before it
-abbrev pub next_by : List ℕ → ℕ → ℕ → Prepared → Prepared
-next_by F r kind p =
-    prepared
-    (set p.fresh r (fresh_from kind r (earlier p.fresh (first_at F r) r) (earlier p.fresh (r - 1) r)))
-    (set p.gain r (gain_from kind (get_or p.gain r 0) (earlier p.fresh (r - 1) r)))
-    (marked kind 2 r p.leaves) (marked kind 6 r p.repeats)
-
+-- node r, from those before it
 abbrev pub next_of : List ℕ → ℕ → Prepared → Prepared
-next_of F r p = next_by F r (known_kind (kind_at F r)) p
+next_of F r p =
+    prepared
+    (set p.fresh r (fresh_from (kind_at F r) r (earlier p.fresh (first_at F r) r) (earlier p.fresh (r - 1) r)))
+    (set p.gain r (gain_from (kind_at F r) (get_or p.gain r 0) (earlier p.fresh (r - 1) r)))
+    (marked (kind_at F r) 2 r p.leaves) (marked (kind_at F r) 6 r p.repeats)
 
 module _ (F S : List ℕ) where
   unfoldable pub prepares : ℕ → Prepared

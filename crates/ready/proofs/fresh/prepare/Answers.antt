@@ -20,6 +20,9 @@ loop-r-preserved c =
       c.gain_of.ensures,
       c.first-x.ensures,
       c.last-y.ensures,
-      c.from-kind.ensures,
+      c.kind_afresh-kind.ensures.fresh,
+      c.kind_afresh-kind.ensures.gain,
+      c.kind_afresh-kind.ensures.leaf,
+      c.kind_afresh-kind.ensures.repeat,
       ← c.loop-r.invariant,
     )
