@@ -17,8 +17,9 @@ use Rattle.play.specs.Mirror.Step.{stepped}
 use Rattle.play.proofs.Promises.{finished, lines_few}
 use Rattle.play.proofs.Tests.{by_test}
 use Rattle.engine.specs.declared.Desk.{Desk}
+use Rattle.engine.specs.declared.Moved.{Moved}
 use Rattle.engine.specs.Reply.{said}
-use Rattle.engine.specs.Mirror.Desk.{marked, fresh_desk, opened_of, answer_of, put, Onward, onward, Stepped, stepped_of}
+use Rattle.engine.specs.Mirror.Desk.{marked, fresh_desk, opened_of, answer_of, put, Onward, onward, stepped_of}
 
 pub refused_opening : (d : Desk) (s : List ℕ) → rule_number s ≢ 0 → (opened_of d s).desk ≡ d
 unfolding opened_of
@@ -41,7 +42,7 @@ module _ (d : Desk) (a : ℕ) where
       → (stepped_of d a ≡ record { desk = d; reply = Err NoRuleOpen })
       × (number (stepped_of d a).reply ≡ 15)
       × (said (stepped_of d a).reply ≡ record { notices = 0; lines = 0; status = Waiting })
-  closed_says e = (closed_step e, ap (λ (m : Stepped). number m.reply) (closed_step e), ap (λ (m : Stepped). said m.reply) (closed_step e))
+  closed_says e = (closed_step e, ap (λ (m : Moved). number m.reply) (closed_step e), ap (λ (m : Moved). said m.reply) (closed_step e))
 
   pub goes_on : d.is_open ≢ 0
       → let m = stepped d.nodes d.gain d.leaves d.repeats (d.root % 64) a d.active in

@@ -10,7 +10,8 @@ use Rattle.par.specs.Expr.{Expr}
 use Rattle.par.specs.Feed.{Bytes}
 use Rattle.files.specs.Rule.{rule, rule_number}
 use Rattle.engine.specs.declared.Desk.{Desk}
-use Rattle.engine.specs.Mirror.Desk.{empty_desk, fresh_desk, opened_of, Stepped, stepped_of}
+use Rattle.engine.specs.declared.Moved.{Moved}
+use Rattle.engine.specs.Mirror.Desk.{empty_desk, fresh_desk, opened_of, stepped_of}
 use Rattle.engine.specs.History.{Call, Call.opening, Call.stepping, Back.numbered, Back.replied, BytesIn}
 use Rattle.engine.specs.History.{Book, Book.closed, Book.«open», book_after, book_reply, book_back, books_after, books_back, Remains, ByTheBook}
 use Rattle.engine.specs.History.{desk_after, desk_back, desks_after, desks_back}
@@ -42,11 +43,11 @@ opens d b s bytes k =
     }
 
 pub step_replies : (d : Desk) (b : Book) → Keeps d b → (a : ℕ) → (stepped_of d a).reply ≡ book_reply b a
-step_replies d closed (shut e) a = ap (λ (m : Stepped). m.reply) (closed_step d a e)
+step_replies d closed (shut e) a = ap (λ (m : Moved). m.reply) (closed_step d a e)
 step_replies d («open» x feed) (sits s) a = step_answers d x feed s a
 
 step_keeps : (d : Desk) (b : Book) → Keeps d b → (a : ℕ) → Keeps (stepped_of d a).desk (book_after b (stepping a))
-step_keeps d closed (shut e) a = shut (ap (λ (m : Stepped). m.desk.is_open) (closed_step d a e) ∙ e)
+step_keeps d closed (shut e) a = shut (ap (λ (m : Moved). m.desk.is_open) (closed_step d a e) ∙ e)
 step_keeps d («open» x feed) (sits s) a = sits (step_sits d x feed s a)
 
 pub steps : (d : Desk) (b : Book) (a : ℕ) → Keeps d b → Together d b (stepping a)

@@ -9,7 +9,7 @@ ghost use Rattle.files.specs.Rule.{rule_number};
 ghost use Rattle.engine.specs.Reply.{said};
 ghost use Rattle.engine.specs.History.{Call.opening, Call.stepping, Back.numbered, Back.replied, ByTheBook};
 ghost use Rattle.engine.specs.Cost.{WithinRule};
-ghost use Rattle.engine.specs.Mirror.Desk.{empty_desk, fresh_desk, opened_of, narrowed, answer_of, stepped_of, moved_of};
+ghost use Rattle.engine.specs.Mirror.Desk.{empty_desk, fresh_desk, opened_of, narrowed, answer_of, stepped_of};
 
 pub use feed::run;
 use par::{Answer, Notices};
@@ -37,7 +37,14 @@ pub struct Desk {
 #[derive(Clone, Copy)]
 pub struct Moved {
     pub desk: Desk,
-    pub answer: Answer,
+    pub reply: Result<Answer, Refusal>,
+}
+
+// What an opening by value gives back.
+#[derive(Clone, Copy)]
+pub struct Begun {
+    pub desk: Desk,
+    pub outcome: Result<(), Refusal>,
 }
 
 impl Desk {
@@ -83,9 +90,9 @@ pub fn empty() -> Desk
     }
 }
 
-// The work of `open`, by value: a desk with the rule, fresh. Refused with the file's refusal, then 8, there is none, so that the caller's own stays.
+// The work of `open` and `opened`: a desk with the rule, fresh. Refused with the file's refusal, then 8, there is none, and the caller's own stays.
 #[tactic(auto, unfolding(crate::specs::Mirror::Desk::fresh_desk))]
-pub fn opened(rule: &[u8]) -> Result<Desk, Refusal>
+pub fn fresh(rule: &[u8]) -> Result<Desk, Refusal>
     ensures refused { number result ≡ rule_number rule.now }
     ensures fresh { IfOk result (λ d. d ≡ fresh_desk rule.now) }
 {
@@ -109,6 +116,23 @@ pub fn opened(rule: &[u8]) -> Result<Desk, Refusal>
     })
 }
 
+// An opening by value, for whoever holds the desk itself: the rule, fresh, or the same desk where the file is refused.
+pub fn opened(d: Desk, rule: &[u8]) -> Begun
+    ensures outcome { number result.outcome ≡ (opened_of d rule.now).number }
+    ensures desk { result.desk ≡ (opened_of d rule.now).desk }
+{
+    match fresh(rule) {
+        Ok(desk) => Begun {
+            desk,
+            outcome: Ok(()),
+        },
+        Err(refusal) => Begun {
+            desk: d,
+            outcome: Err(refusal),
+        },
+    }
+}
+
 // A notice set as wide as a record holds it.
 pub fn narrow(sent: u64) -> Notices
     ensures { result ≡ narrowed sent }
@@ -128,11 +152,12 @@ fn answer_of(moved: play::Moved) -> Answer
 }
 
 // A whole step by value, for whoever holds the desk itself.
-pub fn stepped(mut d: Desk, event: u8) -> Result<Moved, Refusal>
-    ensures { result ≡ moved_of (stepped_of d event) }
+pub fn stepped(d: Desk, event: u8) -> Moved
+    ensures { result ≡ stepped_of d event }
 {
-    let answer = step(&mut d, event)?;
-    Ok(Moved { desk: d, answer })
+    let mut next = d;
+    let reply = step(&mut next, event);
+    Moved { desk: next, reply }
 }
 
 // Opens a rule on a desk, fresh, also where one is open. Refused with the file's refusal, then 8, the desk is as it was. On a desk made empty and changed
@@ -142,7 +167,7 @@ pub fn open(d: &mut Desk, rule: &[u8]) -> Result<(), Refusal>
         × (d.new ≡ (opened_of d.old rule.now).desk)
         × ByTheBook d.old (opening rule.now) (numbered (number result)) d.new }
 {
-    *d = opened(rule)?;
+    *d = fresh(rule)?;
     Ok(())
 }
 

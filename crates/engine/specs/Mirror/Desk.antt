@@ -41,11 +41,11 @@ fresh_desk s =
     }
 
 -- what an opening leaves on a desk, and its number
-pub record Begun : Type 0 where
+pub record Opened : Type 0 where
   pub desk : Desk
   pub number : ℕ
 
-unfoldable pub opened_of : Desk → List ℕ → Begun
+unfoldable pub opened_of : Desk → List ℕ → Opened
 opened_of d s = record { desk = cond (eqb (rule_number s) 0) (fresh_desk s) d; number = rule_number s }
 
 -- ---- a step
@@ -89,17 +89,5 @@ put d active going = record {
 }
 
 -- what a step leaves on a desk, and its reply
-pub record Stepped : Type 0 where
-  pub desk : Desk
-  pub reply : Result Answer Refusal
-
-unfoldable pub stepped_of : Desk → ℕ → Stepped
+unfoldable pub stepped_of : Desk → ℕ → Moved
 stepped_of d a = let o = onward d a in record { desk = put d o.active o.going; reply = o.reply }
-
--- the same by value: refused, no desk is given back
-abbrev pub moved_by_reply : Desk → Result Answer Refusal → Result Moved Refusal
-moved_by_reply d (Ok r) = Ok (record { desk = d; answer = r })
-moved_by_reply d (Err e) = Err e
-
-abbrev pub moved_of : Stepped → Result Moved Refusal
-moved_of s = moved_by_reply s.desk s.reply
