@@ -24,5 +24,5 @@ root_few = RuleNodes.root_few
 pub root_size : (s : List ℕ) → rule_number s ≡ 0 → (ready_of s).root + 1 ≡ size (rule s)
 root_size = RuleNodes.root_size
 
-pub ready_long : (s : List ℕ) → rule_number s ≡ 0 → (length (ready_of s).nodes ≡ 64) × (length (ready_of s).gain ≡ 64)
+pub ready_long : (s : List ℕ) → (length (ready_of s).nodes ≡ 64) × (length (ready_of s).gain ≡ 64)
 ready_long = RuleNodes.ready_long

@@ -12,7 +12,7 @@ use Rattle.files.proofs.RuleNumbers.{rule_number_0}
 use Rattle.play.proofs.Plays.{Stands}
 use Rattle.ready.specs.Mirror.WrittenOut.{Room}
 use Rattle.ready.specs.Mirror.Ready.{blank, rule_nodes, ready_of}
-use Rattle.ready.proofs.Written.{Out, size_some, room_out}
+use Rattle.ready.proofs.Written.{Out, size_some, room_out, written_out_long}
 use Rattle.ready.proofs.Prepared.{gain_long}
 use Rattle.ready.proofs.Afresh.{starts}
 
@@ -39,8 +39,9 @@ module _ (s : List ℕ) where
       let some = size_some (rule s) in
       (omega arith, omega arith)
 
-  rule_long : rule_number s ≡ 0 → (length (rule_nodes s).nodes ≡ 64) × (length (rule_nodes s).sets ≡ 64)
-  rule_long e = let k = (rule_out e).kept in (k.nodes.long, k.sets.long)
+  pub rule_long : (length (rule_nodes s).nodes ≡ 64) × (length (rule_nodes s).sets ≡ 64)
+  unfolding rule_nodes
+  rule_long = written_out_long _ (length (reading s).places) _ blank
 
   -- ---- what is promised
 
@@ -48,7 +49,7 @@ module _ (s : List ℕ) where
       → let r = ready_of s in Stands r.nodes r.gain r.leaves r.repeats r.root r.fresh 0 (rule s)
   unfolding ready_of
   ready_stands e =
-      let c = rule_count e in starts (rule_nodes s).nodes (rule_nodes s).sets (rule_long e).1 (omega arith) (rule_out e).lays
+      let c = rule_count e in starts (rule_nodes s).nodes (rule_nodes s).sets rule_long.1 (omega arith) (rule_out e).lays
 
   pub root_few : rule_number s ≡ 0 → (ready_of s).root < 64
   unfolding ready_of
@@ -58,6 +59,6 @@ module _ (s : List ℕ) where
   unfolding ready_of
   root_size e = let is = (rule_out e).count in omega (arith, size_some (rule s))
 
-  pub ready_long : rule_number s ≡ 0 → (length (ready_of s).nodes ≡ 64) × (length (ready_of s).gain ≡ 64)
+  pub ready_long : (length (ready_of s).nodes ≡ 64) × (length (ready_of s).gain ≡ 64)
   unfolding ready_of
-  ready_long e = let l = rule_long e in (l.0, gain_long _ _ _ ∙ l.1)
+  ready_long = let l = rule_long in (l.0, gain_long _ _ _ ∙ l.1)

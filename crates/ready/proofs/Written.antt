@@ -1,9 +1,10 @@
--- What is written out lays the record's expression; it has as many nodes as the expression, and what stood before it stays.
+-- What is written out lays the record's expression; it has as many nodes as the expression, and what stood before it stays. The lists keep their
+-- lengths, whatever is written out.
 use Prim.Native.Nat.{ℕ, zero, suc, ◌+◌, ◌-◌, ◌≤◌, ◌<◌}
 use mathlib.Core.Path.{◌≡◌, refl, ◌∙◌}
 use mathlib.Core.List.{List}
 use native.Mathlib.Omega.{arith}
-use lib.ListN.{length, get_or, set}
+use lib.ListN.{length, get_or, set, length-set}
 use lib.Seq.{get_or-set_same}
 use Rattle.par.specs.declared.Node.{Node}
 use Rattle.par.specs.declared.Node.TheVariants.{Silent, Event, Not, Either, Then, Repeat, Notify, Try}
@@ -149,3 +150,31 @@ pub room_out : {node : ℕ → Node} {n r : ℕ} {w : Written} → Room node n r
 room_out {node} {n} {r} {w} room f h =
     written_out_lem node n room.earlier f r h room.within w
     (record { room = room.room; nodes_long = room.nodes_long; sets_long = room.sets_long })
+
+-- ---- whatever is written out, the lists keep their lengths
+
+-- v's lists are as long as w's
+abbrev pub LongAs : Written → Written → Type 0
+LongAs w v = (length v.nodes ≡ length w.nodes) × (length v.sets ≡ length w.sets)
+
+put_long : (w v : Written) (kind x A : ℕ) → LongAs w v → LongAs w (put v kind x A)
+put_long w v kind x A l = (length-set v.nodes v.count (packed kind x) ∙ l.0, length-set v.sets v.count A ∙ l.1)
+
+module _ (go : ℕ → Written → Written) (keeps : (x : ℕ) (w : Written) → LongAs w (go x w)) where
+  both_long : (x y : ℕ) (w : Written) → LongAs w (go y (go x w))
+  both_long x y w = let k = keeps x w in let l = keeps y (go x w) in (l.0 ∙ k.0, l.1 ∙ k.1)
+
+  assembled_long : (m : Node) (w : Written) → LongAs w (assembled go m w)
+  assembled_long Silent w = put_long w w 1 0 0 (refl, refl)
+  assembled_long (Event b) w = put_long w w 2 b 0 (refl, refl)
+  assembled_long (Not x) w = put_long w (go x w) 3 _ 0 (keeps x w)
+  assembled_long (Either x y) w = put_long w (go y (go x w)) 4 _ 0 (both_long x y w)
+  assembled_long (Then x y) w = put_long w (go y (go x w)) 5 _ 0 (both_long x y w)
+  assembled_long (Repeat x) w = put_long w (go x w) 6 _ 0 (keeps x w)
+  assembled_long (Notify x A) w = put_long w (go x w) 7 _ A (keeps x w)
+  assembled_long (Try x y) w = put_long w (go y (go x w)) 8 _ 0 (both_long x y w)
+
+pub written_out_long : (node : ℕ → Node) (f r : ℕ) (w : Written) → LongAs w (written_out node f r w)
+unfolding written_out
+written_out_long node zero r w = (refl, refl)
+written_out_long node (suc f) r w = assembled_long (written_out node f) (written_out_long node f) (node r) w
