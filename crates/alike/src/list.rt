@@ -16,7 +16,7 @@ fn plan_at(node: Node, r: usize, event: u8, parts: &[Part]) -> Plan
 {
     match node {
         Node::Silent => plans::plan_silent(),
-        Node::Event(b) => plans::plan_event(r, b, event),
+        Node::Event(b) => plans::plan_event(r, usize::from(b), event),
         Node::Not(x) => plans::plan_not(parts[x]),
         Node::Either(x, y) => plans::plan_either(parts[x], parts[y]),
         Node::Then(x, y) => plans::plan_next(parts[x], y),

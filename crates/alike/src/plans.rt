@@ -40,10 +40,10 @@ pub fn plan_silent() -> Plan
 }
 
 // Record r, which is the event b.
-pub fn plan_event(r: usize, b: u8, event: u8) -> Plan
+pub fn plan_event(r: usize, b: usize, event: u8) -> Plan
     ensures { result ≡ plan_event r (eqb b event) }
 {
-    let (status, rest) = if b == event {
+    let (status, rest) = if b == usize::from(event) {
         (Status::Success, Rest::Still)
     } else {
         (Status::Waiting, Rest::Old(r))
