@@ -93,8 +93,8 @@ fn at_event(
     scan(pairs, parts, best)
 }
 
-// The first fault over all pairs and all events. Nothing comes before a fault of the first pair. That the pairs name records that are there stays a
-// clause: it ties two values, which `settle` alone makes.
+// The first fault over all pairs and all events. It is settled where no pair comes before the best: that is the first pair's, or there are no pairs.
+// That the pairs name records that are there stays a clause: it ties two values, which `settle` alone makes.
 pub fn first_fault(records: &Records, pairs: &Pairs) -> Option<Fault>
     requires { Within (length records.now.nodes.now) pairs.now.listed.now }
     ensures { outcome_of result (length pairs.now.listed.now) ≡ first_fault (expressions records.now.nodes.now) (length records.now.nodes.now)
@@ -109,7 +109,7 @@ pub fn first_fault(records: &Records, pairs: &Pairs) -> Option<Fault>
     let mut best: Option<Fault> = None;
     let mut quiet = false;
     for event in 0..=u8::MAX {
-        if let Some(Fault { pair: 0, .. }) = best {
+        if best.map_or(pairs.listed.len(), |fault| fault.pair) == 0 {
             return best;
         }
         let known = named[usize::from(event)];
