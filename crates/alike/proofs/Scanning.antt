@@ -5,8 +5,10 @@ use mathlib.Core.Logic.{inl, inr}
 use mathlib.Core.List.{List}
 use native.Mathlib.Omega.{arith}
 use lib.ListN.{length}
+use Rattle.std.specs.Prelude.{None}
 use Rattle.par.specs.declared.Node.{Node}
 use Rattle.par.specs.Expr.{Expr}
+use Rattle.par.specs.Status.{status_byte}
 use Rattle.par.specs.Step.{status, notices}
 use Rattle.par.proofs.Records.{one_record}
 use Rattle.alike.specs.declared.pair.Pair.{Pair}
@@ -19,7 +21,7 @@ use Rattle.alike.specs.Settled.{ListedRow, Standing, RowPart, Scanned, Scanned.a
 use Rattle.alike.specs.Settled.{PartFault, PartFault.notices_apart, PartFault.statuses_apart, PartFault.one_missing}
 use Rattle.alike.specs.Settled.{PartFault.unlisted, PartFault.all_met}
 use Rattle.alike.specs.Verdict.{Outcome, first_fault}
-use Rattle.alike.proofs.Faults.{Met, placed_absent, placed_stands}
+use Rattle.alike.proofs.Faults.{Met, status_one, placed_absent, placed_stands}
 use Rattle.alike.proofs.Settling.{met_fault, settled_same, settled_fault, first_settled, settled_one}
 
 -- ---- a pair that is listed, by its two records
@@ -29,6 +31,12 @@ lists_row ps p q l = (l.0, l.1, ap (λ (a : Pair). a.left) l.2, ap (λ (a : Pair
 
 pub row_lists : (ps : List Pair) (p q : ℕ) → ListedRow (left_in ps) (right_in ps) (length ps) p q → Lists ps (pair p q)
 row_lists ps p q l = (l.0, l.1, λ i. record { left = l.2 i; right = l.3 i })
+
+-- ---- the second of two entries whose remainder is not in the file
+
+pub right_missing : {Listed : ℕ → ℕ → Type 0} {p q : Part} → p.notices ≡ q.notices → status_byte p.status ≡ status_byte q.status
+    → q.remains ≡ None → PartFault Listed p q 12
+right_missing h e z = one_missing h (status_one _ _ e) (inr z)
 
 -- ---- two entries that are what the figures give
 

@@ -1,8 +1,9 @@
 -- `alike::verdict::fault_between` meets its contract: the tests in their order, and the look-up of the pair.
-use Rattle.std.proofs.Common.{rules, ◌≡◌, ◌≢◌, inl, inr, Some, None}
+use Rattle.std.proofs.Common.{rules, ◌≡◌, ◌≢◌, ap, inl, inr, Some, None}
+use Rattle.par.specs.Status.{status_byte}
 use Rattle.records.specs.Refusals.{number}
 use Rattle.alike.specs.Settled.{PartFault.notices_apart, PartFault.statuses_apart, PartFault.one_missing, PartFault.unlisted, PartFault.all_met}
-use Rattle.alike.proofs.Scanning.{lists_row, row_lists}
+use Rattle.alike.proofs.Scanning.{lists_row, row_lists, right_missing}
 use Rattle.alike.proofs.verdict.fault_between.Goals as goal
 use Rattle.alike.proofs.verdict.fault_between.Goals.{else-left-right-via-then-left-right+else-not-lists, else-left-right-via-else-left-right}
 
@@ -24,7 +25,7 @@ returns-in_err-right c =
     let twelve : number c.from_residual-in_err-right.result ≡ 12 = search rules in
     let none : c.args.q.remains ≡ None = search rules in
     let same : c.args.p.status ≡ c.args.q.status = search rules in
-    rw twelve (one_missing (cc) same (inr none))
+    rw twelve (right_missing (cc) (ap status_byte same) none)
 
 pub returns-then-not-lists : goal.returns-then-not-lists
 returns-then-not-lists c =
