@@ -1,4 +1,4 @@
--- A record's construct: `earlier_parts`, the test of its parts; `node_range`, its event and its set are in range.
+-- A record's construct: `node_range`, its event and its set are in range; `of_key_lem`, its key decides it; `earlier_parts`, the test of its parts.
 use Prim.Native.Nat.{ℕ, ◌+◌, ◌<◌}
 use mathlib.Core.Path.{◌≡◌, refl, sym}
 use mathlib.Core.Logic.{◌≢◌}
@@ -10,6 +10,7 @@ use lib.ListN.{get_or}
 use lib.Dec.{ltb, eqb}
 use Rattle.par.specs.declared.Node.{Node}
 use Rattle.par.specs.declared.Node.TheVariants.{Silent, Event, Not, Either, Then, Repeat, Notify, Try}
+use Rattle.par.specs.Nodes.{kind_field, first_field, second_field}
 use Rattle.par.specs.Records.{Parts}
 use Rattle.records.specs.Fields.{word_at}
 use Rattle.records.specs.Constructs.{node_of, node_at, earlier_in, InRange}
@@ -37,6 +38,20 @@ node_range s small p =
     (cond_all InRange (eqb k 6) (Repeat x) _ tt
     (cond_all InRange (eqb k 7) (Notify x y) _ (word_lt s small p 6)
     (cond_all InRange (eqb k 8) (Try x y) Silent tt tt))))))
+
+-- ---- keys
+
+-- a record is the construct of its key: of its kind, its first part or event, and its second part or set
+pub of_key_lem : (m : Node) → node_of (kind_field m) (first_field m) (first_field m) (second_field m) (second_field m) ≡ m
+unfolding node_of
+of_key_lem Silent = refl
+of_key_lem (Event b) = refl
+of_key_lem (Not x) = refl
+of_key_lem (Either x y) = refl
+of_key_lem (Then x y) = refl
+of_key_lem (Repeat x) = refl
+of_key_lem (Notify x A) = refl
+of_key_lem (Try x y) = refl
 
 -- ---- parts
 
