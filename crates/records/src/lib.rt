@@ -53,11 +53,9 @@ pub fn byte_at(s: &[u8], p: usize, k: usize) -> u8
 pub fn word_at(s: &[u8], p: usize, k: u8) -> u16
     ensures { result ≡ word_at s.now p k }
 {
-    match s.get(p.saturating_add(usize::from(k))..) {
-        Some([low, high, ..]) => u16::from_le_bytes([*low, *high]),
-        Some([low]) => u16::from(*low),
-        _ => 0,
-    }
+    let low = byte_at(s, p, usize::from(k));
+    let high = byte_at(s, p, usize::from(k) + 1);
+    u16::from_le_bytes([low, high])
 }
 
 // The same as a record's number.
