@@ -19,6 +19,7 @@ use Rattle.par.specs.Step.{status, notices, remainder, met, pushed, kept, then_r
 use Rattle.par.specs.Records.{grow, Parts}
 use Rattle.par.proofs.Records.{Match, Match.m_not, Match.m_either, Match.m_then, Match.m_notify, Match.m_try, parts_map, expr_step}
 use Rattle.alike.specs.declared.plans.Part.{Part}
+use Rattle.alike.specs.declared.entry.Entry.{Entry}
 use Rattle.alike.specs.declared.plans.Plan.{Plan}
 use Rattle.alike.specs.declared.plans.Rest.{Rest}
 use Rattle.alike.specs.Closing.{Stands}
@@ -228,7 +229,7 @@ module _ {ns : List Node} (held : Held ns) {still : Option ℕ} (at-still : Plac
     plan_right part (Notify x A) u at h = notify_right u.1 A h
     plan_right part (Try x y) u at h = try_right u.0.1 u.1.1 h
 
-    pub planned_right : (parts : List Part) (r : ℕ) → r < length ns → Filled (expressions ns) (length ns) a parts r
+    pub planned_right : (parts : List Entry) (r : ℕ) → r < length ns → Filled (expressions ns) (length ns) a parts r
         → RestAt ns still (plan_of (part_of parts) a r (record_of ns r)).rest q
         → Right (expressions ns) (length ns) a (expressions ns r) (answered (plan_of (part_of parts) a r (record_of ns r)) q)
     planned_right parts r h filled rest =

@@ -22,7 +22,7 @@ use Rattle.std.specs.Prelude.{Option}
 use Rattle.alike.specs.Closing.{Closed, Fault}
 use Rattle.alike.specs.Proposal.{pairs, left_of, right_of, Accepted, Verdict, Says}
 use Rattle.par.specs.declared.Node.{Node}
-use Rattle.alike.specs.declared.plans.Part.{Part}
+use Rattle.alike.specs.declared.entry.Entry.{Entry}
 use Rattle.alike.specs.Tables.{expressions, Held}
 use lib.ListN.{length}
 use Rattle.alike.specs.List.{part_of, Placed, Filled}
@@ -102,7 +102,7 @@ fault_alike = quiet.fault_alike
 
 -- ---- The list for one event: each entry is what the figures give for its record, and no other list would do
 
-pub entry_figures : (E : ℕ → Expr) (n a : ℕ) (parts : List Part) → Filled E n a parts n → (r : ℕ) → r < n
+pub entry_figures : (E : ℕ → Expr) (n a : ℕ) (parts : List Entry) → Filled E n a parts n → (r : ℕ) → r < n
     → Sends (E r) a (part_of parts r).notices × Completes (E r) a (part_of parts r).status
     × ((x : Expr) → Becomes (E r) a x → Placed E n x (part_of parts r).remains)
 entry_figures E n a parts filled r h =
@@ -112,7 +112,7 @@ entry_figures E n a parts filled r h =
       λ x b. rw ((figure_4 (E r) a x).0 b) at right.remains_right,
     )
 
-pub filled_one : (ns : List Node) → Held ns → (a : ℕ) (parts parts' : List Part)
+pub filled_one : (ns : List Node) → Held ns → (a : ℕ) (parts parts' : List Entry)
     → Filled (expressions ns) (length ns) a parts (length ns) → Filled (expressions ns) (length ns) a parts' (length ns)
     → (r : ℕ) → r < length ns → part_of parts r ≡ part_of parts' r
 filled_one ns held = Filling.filled_one held

@@ -13,6 +13,7 @@ use Rattle.par.specs.Step.{status, notices}
 use Rattle.par.proofs.Records.{one_record}
 use Rattle.alike.specs.declared.pair.Pair.{Pair}
 use Rattle.alike.specs.declared.plans.Part.{Part}
+use Rattle.alike.specs.declared.entry.Entry.{Entry}
 use Rattle.alike.specs.Closing.{Fault.notices_differ, Fault.statuses_differ, Fault.not_in_file, Fault.not_listed}
 use Rattle.alike.specs.Tables.{record_of, expressions, pair, left_in, right_in, Held, Within}
 use Rattle.alike.specs.Lookup.{Lists}
@@ -67,7 +68,7 @@ module _ {E : ℕ → Expr} {n : ℕ} {d e : Expr} {a : ℕ} {p q : Part} (f : R
 
 -- ---- the verdict one event further
 
-module _ (ns : List Node) (ps : List Pair) {a : ℕ} (parts : List Part) (w : Within (length ns) ps)
+module _ (ns : List Node) (ps : List Pair) {a : ℕ} (parts : List Entry) (w : Within (length ns) ps)
     (filled : Filled (expressions ns) (length ns) a parts (length ns)) where
   row_met : (i k : ℕ) → i < length ps → RowPart parts ps i k
       → Met (expressions ns) (length ns) (ListedRow (left_in ps) (right_in ps) (length ps))

@@ -5,14 +5,24 @@ use Rattle.par.specs.declared.Status.TheVariants.{Waiting}
 use Rattle.par.specs.Expr.{Expr}
 use Rattle.par.specs.Step.{status, notices, remainder}
 use Rattle.alike.specs.declared.plans.Part.{Part}
+use Rattle.alike.specs.declared.entry.Entry.{Entry}
 use Rattle.alike.specs.declared.plans.Rest.{Rest}
 use Rattle.alike.specs.declared.plans.Rest.TheVariants.{Still, Old, New}
 use Rattle.alike.specs.Closing.{Stands, Absent}
 use Rattle.alike.specs.Lookup.{Looked}
 
--- the entry of record r
-abbrev pub part_of : List Part → ℕ → Part
-part_of parts r = get_or parts r (record { notices = 0; status = Waiting; remains = None })
+-- the number, if there is one, fits in 16 bits
+abbrev pub Fits : Option ℕ → Type 0
+Fits None = Unit {0}
+Fits (Some r) = r < 65536
+
+-- the answer that an entry stands for
+abbrev pub part : Entry → Part
+part e = record { notices = e.notices; status = e.status; remains = e.remains }
+
+-- the entry of record r, by the answer that it stands for
+abbrev pub part_of : List Entry → ℕ → Part
+part_of parts r = part (get_or parts r (record { notices = 0; status = Waiting; remains = None }))
 
 -- ---- where a remainder stands: silent's number is `still`
 
@@ -36,5 +46,5 @@ pub record Right (E : ℕ → Expr) (n a : ℕ) (e : Expr) (p : Part) : Type 0 w
   pub remains_right : Placed E n (remainder e a) p.remains
 
 -- the first k entries are
-abbrev pub Filled : (ℕ → Expr) → ℕ → ℕ → List Part → ℕ → Type 0
+abbrev pub Filled : (ℕ → Expr) → ℕ → ℕ → List Entry → ℕ → Type 0
 Filled E n a parts k = (r : ℕ) → r < k → Right E n a (E r) (part_of parts r)

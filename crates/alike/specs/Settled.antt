@@ -5,6 +5,7 @@ use Rattle.par.specs.declared.Node.TheVariants.{Event}
 use Rattle.par.specs.Expr.{Expr}
 use Rattle.alike.specs.declared.pair.Pair.{Pair}
 use Rattle.alike.specs.declared.plans.Part.{Part}
+use Rattle.alike.specs.declared.entry.Entry.{Entry}
 use Rattle.alike.specs.Closing.{Closed, Fault}
 use Rattle.alike.specs.Tables.{record_of, expressions, left_in, right_in}
 use Rattle.alike.specs.List.{part_of}
@@ -55,7 +56,7 @@ pub data PartFault (Listed : ℕ → ℕ → Type 0) (p q : Part) : ℕ → Type
       → (i ≡ j) ⊎ Listed i j → PartFault Listed p q 0
 
 -- of pair i
-abbrev pub RowPart : List Part → List Pair → ℕ → ℕ → Type 0
+abbrev pub RowPart : List Entry → List Pair → ℕ → ℕ → Type 0
 RowPart parts ps i k =
     PartFault (ListedRow (left_in ps) (right_in ps) (length ps)) (part_of parts (left_in ps i)) (part_of parts (right_in ps i)) k
 

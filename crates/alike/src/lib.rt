@@ -4,6 +4,7 @@
 pub mod pair; // pair.rt: a pair of record numbers
 pub mod tables; // tables.rt: the records and the pairs, and the look-up in them
 pub mod plans; // plans.rt: one record's answer from its parts' answers
+pub mod entry; // entry.rt: an answer as a list holds it
 pub mod list; // list.rt: one event's list, an answer for each record
 pub mod verdict; // verdict.rt: the first fault among pairs and events
 

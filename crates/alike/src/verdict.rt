@@ -7,6 +7,7 @@ ghost use Rattle.alike.specs.Settled.{ListedRow, Standing, PartFault, RowPart, S
 ghost use Rattle.alike.specs.Verdict.{first_fault};
 ghost use Rattle.alike.specs.Outcome.{outcome_of};
 
+use crate::entry::Entry;
 use crate::list;
 use crate::pair::Pair;
 use crate::plans::Part;
@@ -40,7 +41,7 @@ fn fault_between(pairs: &Pairs, p: Part, q: Part) -> Result<(), Refusal>
 }
 
 // The best fault, one event's list further: the first fault among the pairs before its own, if there is one.
-fn scan(pairs: &Pairs, parts: &[Part], best: Option<Fault>) -> Option<Fault>
+fn scan(pairs: &Pairs, parts: &[Entry], best: Option<Fault>) -> Option<Fault>
     requires before { (outcome_of best (length pairs.now.listed.now)).pair ≤ length pairs.now.listed.now }
     requires within { Within (length parts.now) pairs.now.listed.now }
     ensures { Scanned (RowPart parts.now pairs.now.listed.now) (outcome_of best (length pairs.now.listed.now))
@@ -48,7 +49,11 @@ fn scan(pairs: &Pairs, parts: &[Part], best: Option<Fault>) -> Option<Fault>
 {
     let end = best.map_or(pairs.listed.len(), |fault| fault.pair);
     for (i, pair) in pairs.listed[..end].iter().enumerate() {
-        if let Err(refusal) = fault_between(pairs, parts[pair.left], parts[pair.right]) {
+        if let Err(refusal) = fault_between(
+            pairs,
+            Part::from(parts[pair.left]),
+            Part::from(parts[pair.right]),
+        ) {
             return Some(Fault { refusal, pair: i });
         }
     }
@@ -76,7 +81,7 @@ fn at_event(
     event: u8,
     known: bool,
     quiet: bool,
-    parts: &mut [Part],
+    parts: &mut [Entry],
     best: Option<Fault>,
 ) -> Option<Fault>
     requires room { length records.now.nodes.now ≤ length parts.old }
@@ -100,7 +105,7 @@ pub fn first_fault(records: &Records, pairs: &Pairs) -> Option<Fault>
     ensures { outcome_of result (length pairs.now.listed.now) ≡ first_fault (expressions records.now.nodes.now) (length records.now.nodes.now)
         (left_in pairs.now.listed.now) (right_in pairs.now.listed.now) (length pairs.now.listed.now) }
 {
-    let mut parts = [Part {
+    let mut parts = [Entry {
         notices: 0,
         status: Status::Waiting,
         remains: None,

@@ -5,5 +5,5 @@ use Rattle.alike.proofs.list.fill.Goals as goal
 
 pub loop-r-preserved : goal.loop-r-preserved
 loop-r-preserved c =
-    filled_more c.loop-r.parts c.find-still.result c.place_rest.result c.args.records.now.held (omega arith) (omega arith) c.loop-r.invariant c.find-still.ensures
-    c.plan_at-plan.ensures c.place_rest.ensures
+    filled_more c.loop-r.parts c.find-still.result c.place_rest.result c.from.result c.args.records.now.held (omega arith) (omega arith)
+    c.loop-r.invariant c.find-still.ensures c.plan_at-plan.ensures c.place_rest.ensures c.from.ensures

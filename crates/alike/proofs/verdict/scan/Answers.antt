@@ -12,7 +12,8 @@ returns-in-Err c =
     let end : c.map_or-end.result ≡ (outcome_of c.args.best (length c.args.pairs.now.listed.now)).pair = search rules in
     let size = length-take-le c.map_or-end.result c.args.pairs.now.listed.now (omega arith) in
     let here = get_or-take c.map_or-end.result c.args.pairs.now.listed.now c.loop-i.i (pair 0 0) (omega arith) in
-    better (omega arith) c.loop-i.invariant (rw here at c.in-Err.ensures) (refusal_some c.in-Err.refusal)
+    let failed = rw (c.from.ensures, c.from-in-loop-i.ensures) at c.in-Err.ensures in
+    better (omega arith) c.loop-i.invariant (rw here at failed) (refusal_some c.in-Err.refusal)
 
 pub returns : goal.returns
 returns c =
