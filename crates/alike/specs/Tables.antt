@@ -54,6 +54,13 @@ left_in ps i = (pair_of ps i).left
 abbrev pub right_in : List Pair → ℕ → ℕ
 right_in ps i = (pair_of ps i).right
 
+-- the records of the pair at each of these places of the file s
+abbrev pub left_at : List ℕ → List ℕ → ℕ → ℕ
+left_at s at i = word_at s (get_or at i 0) 4
+
+abbrev pub right_at : List ℕ → List ℕ → ℕ → ℕ
+right_at s at i = word_at s (get_or at i 0) 6
+
 -- both are among the first n
 pub record Within (n : ℕ) (ps : List Pair) : Type 0 where
   pub inside : (i : ℕ) → i < length ps → (left_in ps i < n) × (right_in ps i < n)

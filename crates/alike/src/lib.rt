@@ -8,13 +8,16 @@ pub mod entry; // entry.rt: an answer as a list holds it
 pub mod list; // list.rt: one event's list, an answer for each record
 pub mod verdict; // verdict.rt: the first fault among pairs and events
 
-ghost use Rattle.std.specs.Prelude.{◌≡◌, drop, length};
+ghost use Rattle.std.specs.Prelude.{◌≡◌, ◌≤◌, drop, length};
 ghost use Rattle.records.specs.Refusals.{number};
-ghost use Rattle.alike.specs.Verdict.{closing, judged, shown_of};
+ghost use Rattle.files.specs.Reading.{reading_pairs};
+ghost use Rattle.alike.specs.Tables.{expressions, left_at, right_at};
+ghost use Rattle.alike.specs.Verdict.{first_fault, judged, shown_of};
 ghost use Rattle.alike.specs.Outcome.{outcome_of};
 ghost use Rattle.alike.specs.Told.{told};
-ghost use Rattle.alike.specs.Ready.{Ready};
+ghost use Rattle.alike.specs.Ready.{Recorded};
 
+use files::Reading;
 use pair::Pair;
 use par::Node;
 use records::{Contents, Refusal};
@@ -29,22 +32,30 @@ pub struct Judged {
     pub place: usize,
 }
 
-// The first closing condition that fails, both files read without fault and the places of their records in hand. The tables are arrays: the engine takes
-// no memory from the heap. Files and places go apart, as `files::node_of` says.
-fn settle(
-    expressions: &[u8],
-    at: &[usize],
-    index: &[usize],
-    pairs: &[u8],
-    places: &[usize],
-) -> Option<Fault>
-    requires { Ready expressions.now at.now index.now pairs.now places.now }
-    ensures { outcome_of result (length places.now) ≡ closing expressions.now pairs.now }
+// Reads the expression file: on acceptance `nodes` gets its records, and `index` their numbers by rising kind and body. Not inlined: so the places
+// take no stack while `verdict::first_fault` holds its list. The tables are arrays: the engine takes no memory from the heap.
+#[inline(never)]
+fn read_records(file: &[u8], nodes: &mut [Node], index: &mut [usize]) -> Reading
+    requires { (1024 ≤ length nodes.old) × (1024 ≤ length index.old) }
+    ensures { Recorded file.now result nodes.old nodes.new index.old index.new }
 {
-    let mut nodes = [Node::Silent; 1024];
-    let nodes = &mut nodes[..at.len()];
-    tables::decode(expressions, at, nodes);
-    let records = Records { nodes, index };
+    let mut at = [0usize; 1024];
+    let reading = files::read_expressions(file, &mut at, index);
+    if reading.outcome.is_ok() {
+        tables::decode(file, &at[..reading.count], nodes);
+    }
+    reading
+}
+
+// The first closing condition that fails, the records in hand, and the pair file read over them without fault and the places of its pairs in hand.
+// File and places go apart, as `files::node_of` says. Not inlined, as above: so its tables take no stack while the expression file is read.
+#[inline(never)]
+fn settle(records: &Records, pairs: &[u8], places: &[usize]) -> Option<Fault>
+    requires read { (reading_pairs pairs.now (length records.now.nodes.now)).number ≡ 0 }
+    requires at { places.now ≡ (reading_pairs pairs.now (length records.now.nodes.now)).places }
+    ensures { outcome_of result (length places.now) ≡ first_fault (expressions records.now.nodes.now) (length records.now.nodes.now)
+        (left_at pairs.now places.now) (right_at pairs.now places.now) (length places.now) }
+{
     let mut listed = [Pair { left: 0, right: 0 }; 256];
     let listed = &mut listed[..places.len()];
     tables::split(pairs, places, listed);
@@ -54,16 +65,16 @@ fn settle(
         listed,
         index: &index[..entries],
     };
-    verdict::first_fault(&records, &pairs)
+    verdict::first_fault(records, &pairs)
 }
 
 // The verdict: the expression file's fault, then the pair file's, then the first closing condition that fails.
 pub fn verdict_of(expressions: &[u8], pairs: &[u8]) -> Judged
     ensures { told result ≡ judged expressions.now pairs.now }
 {
-    let mut at = [0usize; 1024];
+    let mut nodes = [Node::Silent; 1024];
     let mut index = [0usize; 1024];
-    let reading = files::read_expressions(expressions, &mut at, &mut index);
+    let reading = read_records(expressions, &mut nodes, &mut index);
     if let Err(refusal) = reading.outcome {
         return Judged {
             outcome: Err(refusal),
@@ -80,13 +91,11 @@ pub fn verdict_of(expressions: &[u8], pairs: &[u8]) -> Judged
             place: listing.place,
         };
     }
-    let fault = settle(
-        expressions,
-        &at[..reading.count],
-        &index[..reading.count],
-        pairs,
-        &places[..listing.count],
-    );
+    let records = Records {
+        nodes: &nodes[..reading.count],
+        index: &index[..reading.count],
+    };
+    let fault = settle(&records, pairs, &places[..listing.count]);
     match fault {
         Some(Fault { refusal, pair }) => Judged {
             outcome: Err(refusal),
