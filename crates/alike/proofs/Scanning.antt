@@ -33,6 +33,13 @@ lists_row ps p q l = (l.0, l.1, ap (λ (a : Pair). a.left) l.2, ap (λ (a : Pair
 pub row_lists : (ps : List Pair) (p q : ℕ) → ListedRow (left_in ps) (right_in ps) (length ps) p q → Lists ps (pair p q)
 row_lists ps p q l = (l.0, l.1, λ i. record { left = l.2 i; right = l.3 i })
 
+-- the same of a pair, however its two numbers are given
+pub row_asked : (ps : List Pair) {l r p q : ℕ} → ListedRow (left_in ps) (right_in ps) (length ps) p q → l ≡ p → r ≡ q → Lists ps (pair l r)
+row_asked ps {l} {r} {p} {q} h i j = rw (i, j) (row_lists ps p q h)
+
+pub asked_row : (ps : List Pair) {l r p q : ℕ} → Lists ps (pair l r) → l ≡ p → r ≡ q → ListedRow (left_in ps) (right_in ps) (length ps) p q
+asked_row ps {l} {r} {p} {q} h i j = lists_row ps p q (rw (i, j) at h)
+
 -- ---- the second of two entries whose remainder is not in the file
 
 pub right_missing : {Listed : ℕ → ℕ → Type 0} {p q : Part} → p.notices ≡ q.notices → status_byte p.status ≡ status_byte q.status
@@ -82,6 +89,10 @@ module _ (ns : List Node) (ps : List Pair) {a : ℕ} (parts : List Entry) (w : W
       settled_fault v i h (λ j g. row_met j 0 (omega arith) (none j g)) (met_fault k z (row_met i k (omega arith) f))
 
 -- ---- the verdict on all events
+
+-- the same event, however its number is given
+pub standing_at : (ns : List Node) (ps : List Pair) {a b : ℕ} {r : Outcome} → Standing ns ps b r → b ≡ a → Standing ns ps a r
+standing_at ns ps v e = rw e at v
 
 pub standing_first : (ns : List Node) (ps : List Pair) {r : Outcome} → Held ns → Standing ns ps 256 r
     → r ≡ first_fault (expressions ns) (length ns) (left_in ps) (right_in ps) (length ps)

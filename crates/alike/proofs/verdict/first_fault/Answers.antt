@@ -1,10 +1,11 @@
--- `alike::verdict::first_fault` meets its contract: before each event the verdict on the events before it stands.
+-- `alike::verdict::first_fault` meets its contract: before each event the verdict on the events before it stands. That the event is the one that is
+-- handed over is proved by its number, however the code writes it.
 use Rattle.std.proofs.Common.{rules, arith, ◌≡◌, ◌∙◌, sym, length}
 use Rattle.alike.specs.Outcome.{outcome_of}
 use Rattle.alike.specs.Settled.{Quiet.not_yet}
 use Rattle.alike.proofs.Settling.{settled_none, settled_early}
 use Rattle.alike.proofs.Quiet.{quiet_more}
-use Rattle.alike.proofs.Scanning.{standing_first}
+use Rattle.alike.proofs.Scanning.{standing_at, standing_first}
 use Rattle.alike.proofs.verdict.first_fault.Goals as goal
 
 pub loop-event-init : goal.loop-event-init
@@ -20,10 +21,10 @@ pub loop-event-preserved : goal.loop-event-preserved
 loop-event-preserved c =
     record {
       passed = rw c.from.ensures (quiet_more (c.named_events-named.ensures c.loop-event.event (omega arith)) c.loop-event.invariant.passed);
-      standing = c.at_event-best.ensures;
+      standing = standing_at c.args.records.now.nodes.now c.args.pairs.now.listed.now c.at_event-best.ensures (omega arith);
     }
 
 pub returns-else-map_or-eq0 : goal.returns-else-map_or-eq0
 returns-else-map_or-eq0 c =
-    let e : c.loop-event.event ≡ 255 = omega arith in
-    standing_first c.args.records.now.nodes.now c.args.pairs.now.listed.now c.args.records.now.held (rw e at c.at_event-best.ensures)
+    standing_first c.args.records.now.nodes.now c.args.pairs.now.listed.now c.args.records.now.held
+    (standing_at c.args.records.now.nodes.now c.args.pairs.now.listed.now c.at_event-best.ensures (omega arith))
