@@ -1,13 +1,14 @@
 -- The list for one event. `filled_more`: where the entries before record r are right, so is that of r, made from its plan. `filled_one`: what is right in
 -- every entry is one list.
-use Prim.Native.Nat.{ℕ, ◌+◌, ◌<◌, ◌≤◌}
-use mathlib.Core.Path.{◌≡◌, sym, ◌∙◌}
+use Prim.Native.Nat.{ℕ, ◌+◌, ◌%◌, ◌<◌, ◌≤◌}
+use mathlib.Core.Path.{◌≡◌, refl, sym, ap, ◌∙◌}
 use mathlib.Core.List.{List}
 use native.Mathlib.Omega.{arith}
 use borrow.Author.Count.{below_more}
 use lib.ListN.{length, set}
 use lib.Seq.{get_or-set_same, get_or-set_other}
-use Rattle.std.specs.Prelude.{Option}
+use Rattle.std.specs.Prelude.{Option, Some, None}
+use Rattle.std.specs.Option.{option_map}
 use Rattle.par.specs.declared.Node.{Node}
 use Rattle.par.specs.declared.Node.TheVariants.{Silent}
 use Rattle.par.specs.Expr.{Expr}
@@ -18,7 +19,7 @@ use Rattle.alike.specs.declared.plans.Plan.{Plan}
 use Rattle.alike.specs.Tables.{record_of, expressions, Held}
 use Rattle.alike.specs.Lookup.{Looked}
 use Rattle.alike.specs.Plans.{plan_of}
-use Rattle.alike.specs.List.{Fits, part, part_of, RestAt, Placed, Placed.there, Placed.missing, Right, Filled}
+use Rattle.alike.specs.List.{Fits, entry_of, part, part_of, RestAt, Placed, Placed.there, Placed.missing, Right, Filled}
 use Rattle.alike.proofs.Placing.{placed_one, looked_placed}
 use Rattle.alike.proofs.Answering.{answered, planned_right}
 
@@ -35,6 +36,14 @@ entry_more {E} {n} {a} parts r e h filled is =
 placed_fits : {E : ℕ → Expr} {n : ℕ} {e : Expr} {q : Option ℕ} → n ≤ 1024 → Placed E n e q → Fits q
 placed_fits few (there at) = omega (arith, at.0)
 placed_fits few (missing at) = tt
+
+fits_same : (q : Option ℕ) → Fits q → option_map (λ r. r % 65536) q ≡ q
+fits_same None h = refl
+fits_same (Some r) h = ap Some (omega (arith, h))
+
+-- the entry of an answer whose remainder fits stands for it
+pub entry_stands : (p : Part) → Fits p.remains → part (entry_of p) ≡ p
+entry_stands p h = λ i. record { notices = p.notices; status = p.status; remains = fits_same p.remains h i }
 
 -- the turn for record r: its plan is made from the entries before it, its remainder is placed, and its entry is written
 pub filled_more : {ns : List Node} {a r : ℕ} (parts : List Entry) (still : Option ℕ) {plan : Plan} (q : Option ℕ) (e : Entry) → Held ns

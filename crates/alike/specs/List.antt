@@ -1,5 +1,6 @@
 -- The list for one event: an answer for each record.
-use Rattle.std.specs.Prelude.{ℕ, ◌<◌, ◌≡◌, List, Option, Some, None, get_or}
+use Rattle.std.specs.Prelude.{ℕ, ◌<◌, ◌≡◌, ◌%◌, List, Option, Some, None, get_or}
+use Rattle.std.specs.Option.{option_map}
 use Rattle.par.specs.declared.Node.{Node}
 use Rattle.par.specs.declared.Status.TheVariants.{Waiting}
 use Rattle.par.specs.Expr.{Expr}
@@ -15,6 +16,10 @@ use Rattle.alike.specs.Lookup.{Looked}
 abbrev pub Fits : Option ℕ → Type 0
 Fits None = Unit {0}
 Fits (Some r) = r < 65536
+
+-- the entry of an answer: of the remainder's record number the lowest 16 bits
+abbrev pub entry_of : Part → Entry
+entry_of p = record { notices = p.notices; status = p.status; remains = option_map (λ r. r % 65536) p.remains }
 
 -- the answer that an entry stands for
 abbrev pub part : Entry → Part

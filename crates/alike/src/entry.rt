@@ -1,6 +1,6 @@
 // An answer as the list for one event holds it, in 8 bytes where a `Part` takes 24: the list stands on the stack.
 ghost use Rattle.std.specs.Prelude.{◌≡◌};
-ghost use Rattle.alike.specs.List.{Fits, part};
+ghost use Rattle.alike.specs.List.{entry_of, part};
 
 use crate::plans::Part;
 use par::{Notices, Status};
@@ -13,10 +13,10 @@ pub struct Entry {
     pub remains: Option<u16>,
 }
 
-// The entry that stands for an answer whose remainder fits; of a number that does not, the lowest 16 bits.
+// The entry of an answer. It stands for the answer where the remainder's number fits, as every record's does; of any other it has the lowest 16 bits.
 impl From<Part> for Entry {
     fn from(p: Part) -> Entry
-        ensures { Fits p.remains → part result ≡ p }
+        ensures { result ≡ entry_of p }
     {
         Entry {
             notices: p.notices,
